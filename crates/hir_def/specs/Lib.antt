@@ -1,0 +1,4 @@
+pub mod Builtins
+pub mod Codes
+pub mod Faults
+pub mod Imports

@@ -1,0 +1,69 @@
+// Refusals: the layer that refused, the number of the refusal and the place that it tells.
+ghost use mathlib.Core.Path.{_≡_};
+ghost use Rattle.hir_def.specs.Faults.{number, place, told};
+
+/// Why a call was refused, with the place that it tells.
+#[derive(Clone, Copy)]
+pub enum Refusal {
+    /// The module that asks does not exist.
+    NoModule,
+    /// A module, crate, enum or macro that an entry names does not exist.
+    Dangling(usize),
+    /// A row of the tables breaks a rule: the first such row.
+    BadRow(usize),
+}
+
+/// A refusal, under the layer that it comes from.
+#[derive(Clone, Copy)]
+pub enum Fault {
+    Tree(Refusal),
+}
+
+#[derive(Clone, Copy)]
+pub enum Layer {
+    Tree,
+}
+
+/// A fault as numbers, the way a caller reports it.
+#[derive(Clone, Copy)]
+pub struct Told {
+    pub layer: Layer,
+    pub number: u32,
+    pub place: usize,
+}
+
+impl Refusal {
+    pub fn number(self) -> u32
+        ensures { λ r. ⌜ r ≡ number self ⌝ }
+    {
+        match self {
+            Refusal::NoModule => 1,
+            Refusal::Dangling(_) => 6,
+            Refusal::BadRow(_) => 8,
+        }
+    }
+
+    pub fn place(self) -> usize
+        ensures { λ r. ⌜ r ≡ place self ⌝ }
+    {
+        match self {
+            Refusal::NoModule => 0,
+            Refusal::Dangling(place) => place,
+            Refusal::BadRow(place) => place,
+        }
+    }
+}
+
+impl Fault {
+    pub fn told(self) -> Told
+        ensures { λ r. ⌜ r ≡ told self ⌝ }
+    {
+        match self {
+            Fault::Tree(refusal) => Told {
+                layer: Layer::Tree,
+                number: refusal.number(),
+                place: refusal.place(),
+            },
+        }
+    }
+}

@@ -1,0 +1,3 @@
+pub mod Shapes
+pub mod Rows
+pub mod Checked
