@@ -93,8 +93,7 @@ impl PerNs {
     {
         PerNs {
             types: Some(Item { def, vis, import }),
-            values: None,
-            macros: None,
+            ..PerNs::none()
         }
     }
 
@@ -102,9 +101,8 @@ impl PerNs {
         ensures { λ r. ⌜ r ≡ ofValues def vis import ⌝ }
     {
         PerNs {
-            types: None,
             values: Some(Item { def, vis, import }),
-            macros: None,
+            ..PerNs::none()
         }
     }
 
@@ -128,7 +126,7 @@ impl PerNs {
                 vis,
                 import: import_or_glob(import),
             }),
-            macros: None,
+            ..PerNs::none()
         }
     }
 
@@ -136,9 +134,8 @@ impl PerNs {
         ensures { λ r. ⌜ r ≡ ofMacros def vis import ⌝ }
     {
         PerNs {
-            types: None,
-            values: None,
             macros: Some(Item { def, vis, import }),
+            ..PerNs::none()
         }
     }
 

@@ -33,7 +33,7 @@ pub enum Visibility {
 }
 
 /// `m`, or the first module outward that is no block root.
-pub fn leave_blocks<T: Tree>(tree: &T, m: ModuleId) -> ModuleId
+pub(crate) fn leave_blocks<T: Tree>(tree: &T, m: ModuleId) -> ModuleId
     ensures { λ r. ⌜ r ≡ settled (shape (now (tree .entry))) m ⌝ }
 {
     let mut here = m;
@@ -44,7 +44,7 @@ pub fn leave_blocks<T: Tree>(tree: &T, m: ModuleId) -> ModuleId
 }
 
 /// Whether `from` is the target or stands inside it.
-pub fn is_inside<T: Tree>(tree: &T, from: ModuleId, target: ModuleId) -> bool
+pub(crate) fn is_inside<T: Tree>(tree: &T, from: ModuleId, target: ModuleId) -> bool
     ensures { λ r. ⌜ r ≡ inside (shape (now (tree .entry))) target from ⌝ }
 {
     let mut here = from;
@@ -82,11 +82,8 @@ impl Visibility {
         }
     }
 
-    /// Whether `from` may see what has this visibility; numbers that do not exist are refused.
-    pub fn is_visible_from<T: Tree>(self, tree: &T, from: ModuleId) -> Result<bool, Fault>
-        ensures value { λ r. ⌜ r ≡ asked (shape (now (tree .entry))) from self ⌝ }
-        ensures means { λ r. ⌜ made r (λ seen. Decides seen (Sees (shape (now (tree .entry))) from self)) ⌝ }
-        ensures apart { λ r. ⌜ made r (λ seen. seen ≡ true → Apart (shape (now (tree .entry))) from self) ⌝ }
+    fn ask<T: Tree>(self, tree: &T, from: ModuleId) -> Result<bool, Fault>
+        ensures { λ r. ⌜ r ≡ asked (shape (now (tree .entry))) from self ⌝ }
     {
         if from.0 >= tree.modules() {
             return Err(Fault::Tree(Refusal::NoModule));
@@ -95,5 +92,14 @@ impl Visibility {
             return Err(Fault::Tree(Refusal::Dangling(0)));
         }
         Ok(self.sees(tree, from))
+    }
+
+    /// Whether `from` may see what has this visibility; numbers that do not exist are refused.
+    pub fn is_visible_from<T: Tree>(self, tree: &T, from: ModuleId) -> Result<bool, Fault>
+        ensures value { λ r. ⌜ r ≡ asked (shape (now (tree .entry))) from self ⌝ }
+        ensures means { λ r. ⌜ made r (λ seen. Decides seen (Sees (shape (now (tree .entry))) from self)) ⌝ }
+        ensures apart { λ r. ⌜ made r (λ seen. seen ≡ true → Apart (shape (now (tree .entry))) from self) ⌝ }
+    {
+        self.ask(tree, from)
     }
 }

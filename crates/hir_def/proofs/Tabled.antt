@@ -1,13 +1,15 @@
 -- The table of built-in types and the numbers of its names agree, shown once over the whole table.
-use Prim.Native.Nat.{ℕ, zero, suc, _+_, _<_}
+use Prim.Native.Nat.{ℕ, zero, suc, _+_, _<_, _≤_}
 use native.Mathlib.Nat.{add-zero}
 use native.Mathlib.Omega.{arith}
-use mathlib.Core.Path.{_≡_, refl, sym, ap, _∙_}
+use mathlib.Core.Path.{_≡_, refl, sym, ap, subst, _∙_}
 use mathlib.Core.Bool.{Bool, true, false, cond, _&&_}
 use mathlib.Core.List.{List, [], _∷_}
 use lib.Dec.{eqb, ltb}
 use lib.ListN.{length, getD}
-use Rattle.std.proofs.shelf.Tests.{and-parts, eqb-true, lt-ltb, false≢true}
+use Rattle.std.proofs.shelf.Tests.{and-parts, eqb-true, ltb-true, ltb-false}
+use Rattle.std.specs.Options.{Cases as BySome}
+use Rattle.std.specs.declared.option.Option.{Option}
 use Rattle.std.specs.declared.option.Option.the-variants.{Some, None}
 use Rattle.hir_def.specs.declared.Name.{Name}
 use Rattle.hir_def.specs.declared.builtin_type.BuiltinInt.the-variants.{Isize, I8, I16, I32, I64, I128}
@@ -39,12 +41,13 @@ at-row (r ∷ rs) k t (suc i) d h =
 name-of-row : (n : Name) → n .0 < 19 → nameOf (row n .1) ≡ n
 name-of-row n h = let e : numberOf (row n .1) ≡ n .0 = omega (arith, at-row table 0 refl (n .0) ([], Char) h) in λ i. record { 0 = e i }
 
-some-of : (t : Bool) (b c : BuiltinType) → t ≡ true → Some b ≡ cond t (Some c) None → c ≡ b
-some-of true b c h e = cc
-some-of false b c h e = absurd (false≢true h)
-
-pub name-of-type : (n : Name) (b : BuiltinType) → n .0 < 19 → Some b ≡ typeAt n → nameOf b ≡ n
-name-of-type n b h e = sym (ap nameOf (some-of (ltb (n .0) 19) b (row n .1) (lt-ltb (n .0) 19 h) e)) ∙ name-of-row n h
+-- what an answer by the table names
+pub by-table : (n : Name) (r : Option BuiltinType) → r ≡ typeAt n → record { value : r ≡ typeAt n; names : BySome r (19 ≤ n .0) (λ b. nameOf b ≡ n) }
+by-table n r e = record { value = e; names = subst (λ (o : Option BuiltinType). BySome o (19 ≤ n .0) (λ b. nameOf b ≡ n)) (sym e) (told (ltb (n .0) 19) refl) }
+  where
+    told : (t : Bool) → ltb (n .0) 19 ≡ t → BySome (cond t (Some (row n .1)) None) (19 ≤ n .0) (λ b. nameOf b ≡ n)
+    told true t = name-of-row n (ltb-true (n .0) 19 t)
+    told false t = ltb-false (n .0) 19 t
 
 pub type-of-name : (b : BuiltinType) → typeAt (nameOf b) ≡ Some b
 type-of-name Char = refl

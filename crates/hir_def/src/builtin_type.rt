@@ -131,16 +131,22 @@ static BUILTINS: [BuiltinRow; 19] = [
 ];
 
 impl BuiltinType {
-    /// The built-in type of that name, if it is one of the nineteen.
-    pub fn by_name(name: Name) -> Option<BuiltinType>
-        ensures value { λ r. ⌜ r ≡ typeAt name ⌝ }
-        ensures names { λ r. ⌜ BySome r (19 ≤ name .0) (λ b. nameOf b ≡ name) ⌝ }
+    fn at(name: Name) -> Option<BuiltinType>
+        ensures { λ r. ⌜ r ≡ typeAt name ⌝ }
     {
         if name.0 < 19 {
             Some(BUILTINS[name.0 as usize].ty)
         } else {
             None
         }
+    }
+
+    /// The built-in type of that name, if it is one of the nineteen.
+    pub fn by_name(name: Name) -> Option<BuiltinType>
+        ensures value { λ r. ⌜ r ≡ typeAt name ⌝ }
+        ensures names { λ r. ⌜ BySome r (19 ≤ name .0) (λ b. nameOf b ≡ name) ⌝ }
+    {
+        BuiltinType::at(name)
     }
 
     pub fn as_name(self) -> Name

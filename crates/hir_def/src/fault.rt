@@ -1,6 +1,7 @@
 // Refusals: the layer that refused, the number of the refusal and the place that it tells.
 ghost use mathlib.Core.Path.{_≡_};
 ghost use Rattle.hir_def.specs.Faults.{number, place, told};
+use std::fmt;
 
 /// Why a call was refused, with the place that it tells.
 #[derive(Clone, Copy)]
@@ -33,7 +34,7 @@ pub struct Told {
 }
 
 impl Refusal {
-    pub fn number(self) -> u32
+    fn number(self) -> u32
         ensures { λ r. ⌜ r ≡ number self ⌝ }
     {
         match self {
@@ -43,7 +44,7 @@ impl Refusal {
         }
     }
 
-    pub fn place(self) -> usize
+    fn place(self) -> usize
         ensures { λ r. ⌜ r ≡ place self ⌝ }
     {
         match self {
@@ -64,6 +65,28 @@ impl Fault {
                 number: refusal.number(),
                 place: refusal.place(),
             },
+        }
+    }
+}
+
+pub impl fmt::Display for Refusal as RefusalDisplay {
+    fn fmt<W: fmt::Write>(&self, f: &mut fmt::Formatter<W>) -> fmt::Result {
+        f.write_str(
+            match self {
+                Refusal::NoModule => "the module that asks does not exist",
+                Refusal::Dangling(_) =>
+                    "a module or a crate that the item's visibility names does not exist",
+                Refusal::BadRow(_) =>
+                    "a row of the tables breaks a rule of module trees, or a limit is passed; the place is the first such row, counted through the modules, then the blocks, then the crates",
+            },
+        )
+    }
+}
+
+pub impl fmt::Display for Layer as LayerDisplay {
+    fn fmt<W: fmt::Write>(&self, f: &mut fmt::Formatter<W>) -> fmt::Result {
+        match self {
+            Layer::Tree => f.write_str("tree"),
         }
     }
 }

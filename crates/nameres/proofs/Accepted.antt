@@ -17,8 +17,9 @@ use Rattle.hir_def.specs.declared.ModuleId.{ModuleId}
 use Rattle.hir_def.specs.declared.BlockId.{BlockId}
 use Rattle.hir_def.specs.declared.CrateId.{CrateId}
 use Rattle.hir_def.specs.declared.fault.Fault.{Fault}
+use Rattle.hir_def.specs.Faults.{told}
 use Rattle.nameres.specs.Shapes.{Rules, TopOfCrate, TopOfBlock}
-use Rattle.nameres.specs.Rows.{Rows, blankModule, moduleAt, blockAt, crateAt, treeOf, rowNumber, sameBlock, blockExists, isRoot, goodParent, goodModules, goodBlocks, goodCrates, goodRest, goodRow, rowCount, FirstBad, refusedAt, Loads}
+use Rattle.nameres.specs.Rows.{Rows, blankModule, moduleAt, blockAt, crateAt, treeOf, rowNumber, sameBlock, blockExists, isRoot, goodParent, goodModules, goodBlocks, goodCrates, goodRest, goodRow, rowCount, FirstBad, Loads}
 use Rattle.nameres.specs.Checked.{ModulesGood, BlocksGood, CratesGood, rules-of}
 use Rattle.nameres.proofs.Turns.{turn-left, turn-past, bad-none}
 
@@ -106,7 +107,7 @@ few-rows t a =
     let r = rules-of t (modules-of t a) (blocks-of t a) (crates-of t a) in
     omega (arith, r .few-modules, r .few-blocks, r .few-crates)
 
-pub accepted : (t : Rows) (bad : Option ℕ) → FirstBad (goodRow t) (rowCount t) bad → Decides (isOk (refusedAt bad)) (Rules (treeOf t) rowNumber)
-accepted t None a = (λ e. rules-of t (modules-of t a) (blocks-of t a) (crates-of t a), λ r. refl)
-accepted t (Some i) b =
-    (λ e. absurd (true≢false (sym e)), λ r. absurd (both-ways (goodRow t i) (b .1) (all-good t r i (b .0))))
+pub accepted : (t : Rows) (r : Result (Unit {0}) Fault) → Loads t r → Decides (isOk r) (Rules (treeOf t) rowNumber)
+accepted t (Ok u) a = (λ e. rules-of t (modules-of t a) (blocks-of t a) (crates-of t a), λ r. refl)
+accepted t (Err f) b =
+    (λ e. absurd (true≢false (sym e)), λ r. absurd (both-ways (goodRow t (told f .place)) (b .1 .1) (all-good t r (told f .place) (b .1 .0))))

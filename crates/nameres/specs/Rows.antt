@@ -2,7 +2,7 @@
 use Prim.Native.Nat.{ℕ, _+_, _-_, _<_}
 use mathlib.Core.Path.{_≡_}
 use mathlib.Core.Bool.{Bool, true, false, cond, not, _&&_}
-use mathlib.Core.List.{List}
+use mathlib.Core.List.{List, []}
 use lib.Dec.{eqb, ltb}
 use lib.ListN.{length, getD}
 use Rattle.std.specs.Options.{isSome}
@@ -21,6 +21,7 @@ use Rattle.nameres.specs.declared.tree_rows.ModuleRow.{ModuleRow}
 use Rattle.nameres.specs.declared.tree_rows.BlockRow.{BlockRow}
 use Rattle.nameres.specs.declared.tree_rows.CrateRow.{CrateRow}
 use Rattle.nameres.specs.declared.tree_rows.Tables.{Tables}
+use Rattle.hir_def.specs.Faults.{told}
 use Rattle.nameres.specs.Shapes.{Shape}
 
 pub record Rows : Type 0 where
@@ -28,11 +29,11 @@ pub record Rows : Type 0 where
   pub blocks : List BlockRow
   pub crates : List CrateRow
 
-abbrev pub rowsFrom : List ModuleRow → List BlockRow → List CrateRow → Rows
-rowsFrom ms bs cs = record { modules = ms; blocks = bs; crates = cs }
-
 abbrev pub rowsOf : Tables → Rows
-rowsOf t = rowsFrom (t .modules .now) (t .blocks .now) (t .crates .now)
+rowsOf t = record { modules = t .modules .now; blocks = t .blocks .now; crates = t .crates .now }
+
+abbrev pub noRows : Rows
+noRows = record { modules = []; blocks = []; crates = [] }
 
 -- what is told of a number that has no row
 abbrev pub blankModule : ModuleRow
@@ -93,15 +94,30 @@ goodParent t n c b None = isRoot t n c b
 goodParent t n c b (Some p) = ltb (p .0) n && (eqb (moduleAt t p .krate .0) (c .0) && sameBlock (moduleAt t p .block) b)
 
 abbrev pub goodModule : Rows → ℕ → ModuleRow → Bool
-goodModule t n row = ltb n 4096 && (ltb (row .krate .0) (length (t .crates)) && (blockExists t (row .block) && goodParent t n (row .krate) (row .block) (row .parent)))
+goodModule t n row =
+    ltb n 4096
+    && (ltb (row .krate .0) (length (t .crates))
+    && (blockExists t (row .block)
+    && goodParent t n (row .krate) (row .block) (row .parent)))
 
 -- a block's root is in the block and has no parent; its outside module is lower and of the root's crate
 abbrev pub goodBlock : Rows → ℕ → BlockRow → Bool
-goodBlock t n row = ltb n 1024 && (ltb (row .root .0) (length (t .modules)) && (sameBlock (moduleAt t (row .root) .block) (Some (record { 0 = n })) && (not (isSome (moduleAt t (row .root) .parent)) && (ltb (row .outside .0) (row .root .0) && eqb (moduleAt t (row .outside) .krate .0) (moduleAt t (row .root) .krate .0)))))
+goodBlock t n row =
+    ltb n 1024
+    && (ltb (row .root .0) (length (t .modules))
+    && (sameBlock (moduleAt t (row .root) .block) (Some (record { 0 = n }))
+    && (not (isSome (moduleAt t (row .root) .parent))
+    && (ltb (row .outside .0) (row .root .0)
+    && eqb (moduleAt t (row .outside) .krate .0) (moduleAt t (row .root) .krate .0)))))
 
 -- a crate's root is of the crate, in no block and without a parent
 abbrev pub goodCrate : Rows → ℕ → CrateRow → Bool
-goodCrate t n row = ltb n 64 && (ltb (row .root .0) (length (t .modules)) && (eqb (moduleAt t (row .root) .krate .0) n && (not (isSome (moduleAt t (row .root) .block)) && not (isSome (moduleAt t (row .root) .parent)))))
+goodCrate t n row =
+    ltb n 64
+    && (ltb (row .root .0) (length (t .modules))
+    && (eqb (moduleAt t (row .root) .krate .0) n
+    && (not (isSome (moduleAt t (row .root) .block))
+    && not (isSome (moduleAt t (row .root) .parent)))))
 
 abbrev pub goodModules : Rows → ℕ → Bool
 goodModules t k = goodModule t k (getD (t .modules) k blankModule)
@@ -131,10 +147,7 @@ abbrev pub FirstBad : (ℕ → Bool) → ℕ → Option ℕ → Type 0
 FirstBad good n None = (k : ℕ) → k < n → good k ≡ true
 FirstBad good n (Some i) = (i < n) × (good i ≡ false) × ((k : ℕ) → k < i → good k ≡ true)
 
--- a load is refused at the first bad row
-abbrev pub refusedAt : Option ℕ → Result (Unit {0}) Fault
-refusedAt None = Ok tt
-refusedAt (Some i) = Err (Tree (BadRow i))
-
+-- a load is accepted where no row is bad, and else refused at the first bad row
 abbrev pub Loads : Rows → Result (Unit {0}) Fault → Type 0
-Loads t r = (bad : Option ℕ) × FirstBad (goodRow t) (rowCount t) bad × (r ≡ refusedAt bad)
+Loads t (Ok u) = FirstBad (goodRow t) (rowCount t) None
+Loads t (Err f) = (f ≡ Tree (BadRow (told f .place))) × FirstBad (goodRow t) (rowCount t) (Some (told f .place))

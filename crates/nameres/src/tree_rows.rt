@@ -55,7 +55,7 @@ fn row_or<R: Copy>(rows: &[R], number: u32, blank: R) -> R
 }
 
 impl<'a> Tables<'a> {
-    pub fn module(&self, m: ModuleId) -> ModuleRow
+    pub(crate) fn module(&self, m: ModuleId) -> ModuleRow
         ensures { λ r. ⌜ r ≡ moduleAt (rowsOf (now (self .entry))) m ⌝ }
     {
         row_or(
@@ -69,7 +69,7 @@ impl<'a> Tables<'a> {
         )
     }
 
-    pub fn block(&self, b: BlockId) -> BlockRow
+    pub(crate) fn block(&self, b: BlockId) -> BlockRow
         ensures { λ r. ⌜ r ≡ blockAt (rowsOf (now (self .entry))) b ⌝ }
     {
         row_or(
@@ -82,7 +82,7 @@ impl<'a> Tables<'a> {
         )
     }
 
-    pub fn krate(&self, c: CrateId) -> CrateRow
+    pub(crate) fn krate(&self, c: CrateId) -> CrateRow
         ensures { λ r. ⌜ r ≡ crateAt (rowsOf (now (self .entry))) c ⌝ }
     {
         row_or(
@@ -198,7 +198,7 @@ fn first_bad<R: Row>(tables: &Tables, rows: &[R]) -> Option<usize>
 }
 
 /// The first row that breaks a rule, counted through the modules, then the blocks, then the crates.
-pub fn first_bad_row(tables: &Tables) -> Option<usize>
+pub(crate) fn first_bad_row(tables: &Tables) -> Option<usize>
     ensures { λ r. ⌜ FirstBad (goodRow (rowsOf (now (tables .entry)))) (rowCount (rowsOf (now (tables .entry)))) r ⌝ }
 {
     if let Some(m) = first_bad(tables, tables.modules) {

@@ -2,16 +2,13 @@
 ghost use Prim.Native.Nat.{_≤_};
 ghost use mathlib.Core.Path.{_≡_};
 ghost use mathlib.Core.Bool.{cond};
-ghost use mathlib.Core.List.{[]};
 ghost use Rattle.std.specs.Orderings.{Decides};
 ghost use Rattle.std.specs.Results.{isOk};
+ghost use Rattle.std.specs.declared.option.Option.the-variants.{None};
 ghost use Rattle.nameres.specs.Shapes.{Rules};
-ghost use Rattle.nameres.specs.Rows.{rowsOf, rowsFrom, treeOf, rowNumber, rowCount, Loads};
+ghost use Rattle.nameres.specs.Rows.{rowsOf, noRows, treeOf, rowNumber, goodRow, rowCount, FirstBad, Loads};
 ghost use Rattle.nameres.specs.Checked.{ModulesGood, BlocksGood, CratesGood, rules-of};
 use crate::Tree;
-use crate::tree_rows::BlockRow;
-use crate::tree_rows::CrateRow;
-use crate::tree_rows::ModuleRow;
 use crate::tree_rows::Tables;
 use crate::tree_rows::first_bad_row;
 use hir_def::BlockId;
@@ -21,6 +18,7 @@ use hir_def::ModuleId;
 use hir_def::fault::Fault;
 use hir_def::fault::Refusal;
 
+/// A tree over tables that keep the rules.
 #[derive(Drop)]
 pub struct TreeTable<'a> {
     tables: Tables<'a>,
@@ -33,7 +31,7 @@ pub struct TreeTable<'a> {
 impl<'a> TreeTable<'a> {
     /// A tree without crates.
     pub fn new() -> TreeTable<'a>
-        ensures { λ r. ⌜ rowsOf (r .tables) ≡ rowsFrom [] [] [] ⌝ }
+        ensures { λ r. ⌜ rowsOf (r .tables) ≡ noRows ⌝ }
     {
         TreeTable {
             tables: Tables {
@@ -44,28 +42,32 @@ impl<'a> TreeTable<'a> {
         }
     }
 
-    /// Takes the tables in, or says which row is the first that breaks a rule and keeps what it had. Rows are counted
-    /// through the modules, then the blocks, then the crates.
-    pub fn load(
-        &mut self,
-        modules: &'a [ModuleRow],
-        blocks: &'a [BlockRow],
-        crates: &'a [CrateRow],
-    ) -> Result<(), Fault>
-        ensures answers { λ r. ⌜ Loads (rowsFrom (now (modules .entry)) (now (blocks .entry)) (now (crates .entry))) r ⌝ }
-        ensures accepted { λ r. ⌜ Decides (isOk r) (Rules (treeOf (rowsFrom (now (modules .entry)) (now (blocks .entry)) (now (crates .entry)))) rowNumber) ⌝ }
-        ensures after { λ r. ⌜ rowsOf (now (self .exit) .tables) ≡ cond (isOk r) (rowsFrom (now (modules .entry)) (now (blocks .entry)) (now (crates .entry))) (rowsOf (now (self .entry) .tables)) ⌝ }
+    fn over(tables: Tables<'a>) -> TreeTable<'a>
+        requires { ⌜ FirstBad (goodRow (rowsOf tables)) (rowCount (rowsOf tables)) None ⌝ }
+        ensures { λ r. ⌜ rowsOf (r .tables) ≡ rowsOf (tables .entry) ⌝ }
     {
-        let tables = Tables {
-            modules,
-            blocks,
-            crates,
-        };
+        TreeTable { tables }
+    }
+
+    fn take_in(&mut self, tables: Tables<'a>) -> Result<(), Fault>
+        ensures answers { λ r. ⌜ Loads (rowsOf (tables .entry)) r ⌝ }
+        ensures after { λ r. ⌜ rowsOf (now (self .exit) .tables) ≡ cond (isOk r) (rowsOf (tables .entry)) (rowsOf (now (self .entry) .tables)) ⌝ }
+    {
         if let Some(row) = first_bad_row(&tables) {
             return Err(Fault::Tree(Refusal::BadRow(row)));
         }
-        self.tables = tables;
+        *self = TreeTable::over(tables);
         Ok(())
+    }
+
+    /// Takes the tables in, or says which row is the first that breaks a rule and keeps what it had. Rows are counted
+    /// through the modules, then the blocks, then the crates.
+    pub fn load(&mut self, tables: Tables<'a>) -> Result<(), Fault>
+        ensures answers { λ r. ⌜ Loads (rowsOf (tables .entry)) r ⌝ }
+        ensures accepted { λ r. ⌜ Decides (isOk r) (Rules (treeOf (rowsOf (tables .entry))) rowNumber) ⌝ }
+        ensures after { λ r. ⌜ rowsOf (now (self .exit) .tables) ≡ cond (isOk r) (rowsOf (tables .entry)) (rowsOf (now (self .entry) .tables)) ⌝ }
+    {
+        self.take_in(tables)
     }
 }
 
