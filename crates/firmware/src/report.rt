@@ -67,7 +67,7 @@ pub(crate) fn push_fault(out: &mut String, fault: Fault) -> fmt::Result {
     let layer = told.layer;
     let number = told.number;
     let place = told.place;
-    let Fault::Tree(refusal) = fault;
+    let refusal = fault.refusal();
     write!(
         out,
         "layer {layer}, number {number}, place {place}: {refusal}"

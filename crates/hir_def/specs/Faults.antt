@@ -1,21 +1,32 @@
--- Each refusal's number and place.
+-- Each refusal's number and place, and each fault's layer.
 use Prim.Native.Nat.{ℕ}
 use Rattle.hir_def.specs.declared.fault.Fault.{Fault}
-use Rattle.hir_def.specs.declared.fault.Fault.the-variants.{Tree}
+use Rattle.hir_def.specs.declared.fault.Fault.the-variants.{Text, Tree}
+use Rattle.hir_def.specs.declared.fault.Layer.{Layer}
 use Rattle.hir_def.specs.declared.fault.Layer.the-variants as layer
 use Rattle.hir_def.specs.declared.fault.Refusal.{Refusal}
-use Rattle.hir_def.specs.declared.fault.Refusal.the-variants.{NoModule, Dangling, BadRow}
+use Rattle.hir_def.specs.declared.fault.Refusal.the-variants.{NoModule, Dangling, BadRow, BadText}
 use Rattle.hir_def.specs.declared.fault.Told.{Told}
 
 abbrev pub number : Refusal → ℕ
 number NoModule = 1
 number (Dangling p) = 6
 number (BadRow p) = 8
+number (BadText p) = 9
 
 abbrev pub place : Refusal → ℕ
 place NoModule = 0
 place (Dangling p) = p
 place (BadRow p) = p
+place (BadText p) = p
+
+abbrev pub layerOf : Fault → Layer
+layerOf (Text r) = layer.Text
+layerOf (Tree r) = layer.Tree
+
+abbrev pub refusalOf : Fault → Refusal
+refusalOf (Text r) = r
+refusalOf (Tree r) = r
 
 abbrev pub told : Fault → Told
-told (Tree r) = record { layer = layer.Tree; number = number r; place = place r }
+told f = record { layer = layerOf f; number = number (refusalOf f); place = place (refusalOf f) }

@@ -1,6 +1,6 @@
 // Refusals: the layer that refused, the number of the refusal and the place that it tells.
 ghost use mathlib.Core.Path.{_≡_};
-ghost use Rattle.hir_def.specs.Faults.{number, place, told};
+ghost use Rattle.hir_def.specs.Faults.{number, place, layerOf, refusalOf, told};
 use std::fmt;
 
 /// Why a call was refused, with the place that it tells.
@@ -10,18 +10,22 @@ pub enum Refusal {
     NoModule,
     /// A module, crate, enum or macro that an entry names does not exist.
     Dangling(usize),
-    /// A row of the tables breaks a rule: the first such row.
+    /// A row of the tables or a line of the name list breaks a rule: the first such row or line.
     BadRow(usize),
+    /// A text is no path: the first byte that cannot go on, or the length.
+    BadText(usize),
 }
 
 /// A refusal, under the layer that it comes from.
 #[derive(Clone, Copy)]
 pub enum Fault {
+    Text(Refusal),
     Tree(Refusal),
 }
 
 #[derive(Clone, Copy)]
 pub enum Layer {
+    Text,
     Tree,
 }
 
@@ -41,6 +45,7 @@ impl Refusal {
             Refusal::NoModule => 1,
             Refusal::Dangling(_) => 6,
             Refusal::BadRow(_) => 8,
+            Refusal::BadText(_) => 9,
         }
     }
 
@@ -51,20 +56,38 @@ impl Refusal {
             Refusal::NoModule => 0,
             Refusal::Dangling(place) => place,
             Refusal::BadRow(place) => place,
+            Refusal::BadText(place) => place,
         }
     }
 }
 
 impl Fault {
+    fn layer(self) -> Layer
+        ensures { λ r. ⌜ r ≡ layerOf self ⌝ }
+    {
+        match self {
+            Fault::Text(_) => Layer::Text,
+            Fault::Tree(_) => Layer::Tree,
+        }
+    }
+
+    pub fn refusal(self) -> Refusal
+        ensures { λ r. ⌜ r ≡ refusalOf self ⌝ }
+    {
+        match self {
+            Fault::Text(refusal) => refusal,
+            Fault::Tree(refusal) => refusal,
+        }
+    }
+
     pub fn told(self) -> Told
         ensures { λ r. ⌜ r ≡ told self ⌝ }
     {
-        match self {
-            Fault::Tree(refusal) => Told {
-                layer: Layer::Tree,
-                number: refusal.number(),
-                place: refusal.place(),
-            },
+        let refusal = self.refusal();
+        Told {
+            layer: self.layer(),
+            number: refusal.number(),
+            place: refusal.place(),
         }
     }
 }
@@ -77,7 +100,9 @@ pub impl fmt::Display for Refusal as RefusalDisplay {
                 Refusal::Dangling(_) =>
                     "a module or a crate that the item's visibility names does not exist",
                 Refusal::BadRow(_) =>
-                    "a row of the tables breaks a rule of module trees, or a limit is passed; the place is the first such row, counted through the modules, then the blocks, then the crates",
+                    "a row of the tables, or a line of the name list, breaks a rule or lies beyond a limit; the place is the first such row or line",
+                Refusal::BadText(_) =>
+                    "the text is no path; the place is the first byte that cannot go on",
             },
         )
     }
@@ -86,6 +111,7 @@ pub impl fmt::Display for Refusal as RefusalDisplay {
 pub impl fmt::Display for Layer as LayerDisplay {
     fn fmt<W: fmt::Write>(&self, f: &mut fmt::Formatter<W>) -> fmt::Result {
         match self {
+            Layer::Text => f.write_str("text"),
             Layer::Tree => f.write_str("tree"),
         }
     }

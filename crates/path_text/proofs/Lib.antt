@@ -1,0 +1,10 @@
+pub mod Lines
+pub mod Firsts
+pub mod Turns
+pub mod Judged
+pub mod Spelled
+pub mod Parsed
+pub mod Halting
+pub mod Steps
+pub mod Readings
+pub mod Exact

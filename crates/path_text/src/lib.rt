@@ -1,0 +1,5 @@
+// Text of paths and lists of names.
+pub mod mod_path;
+pub mod name_list;
+pub mod path_text;
+mod scan;

@@ -1,0 +1,114 @@
+// Tests of path text and name lists: what is accepted, and the place of each refusal.
+#[cfg(test)]
+mod tests {
+    use hir_def::Name;
+    use path_text::name_list::NameList;
+    use path_text::path_text::check_path_text;
+    use std::test::*;
+
+    // The number and the place of a refused text; (0, 0) of a path.
+    fn told(text: &[u8]) -> (u32, usize) {
+        match check_path_text(text) {
+            Ok(()) => (0, 0),
+            Err(fault) => (fault.told().number, fault.told().place),
+        }
+    }
+
+    #[test]
+    fn paths() -> Result<(), Fail> {
+        let texts: [&[u8]; 12] = [
+            b"a",
+            b"_a9",
+            b"crate",
+            b"self",
+            b"super::super",
+            b"self::super::a",
+            b"crate::a::b",
+            b"::a",
+            b"crate::selfx",
+            b"supers::cratee",
+            b"fn::Self::r",
+            b"a::__",
+        ];
+        for text in texts {
+            check_eq(told(text), (0, 0))?;
+        }
+        Ok(())
+    }
+
+    #[test]
+    fn texts_that_end_early() -> Result<(), Fail> {
+        check_eq(told(b""), (9, 0))?;
+        check_eq(told(b":"), (9, 1))?;
+        check_eq(told(b"::"), (9, 2))?;
+        check_eq(told(b"a:"), (9, 2))?;
+        check_eq(told(b"a::"), (9, 3))?;
+        check_eq(told(b"_"), (9, 1))
+    }
+
+    #[test]
+    fn bytes_that_cannot_stand() -> Result<(), Fail> {
+        check_eq(told(b"9a"), (9, 0))?;
+        check_eq(told(b"a:b"), (9, 2))?;
+        check_eq(told(b"a b"), (9, 1))?;
+        check_eq(told(b"a::9"), (9, 3))?;
+        check_eq(told(b":::a"), (9, 2))?;
+        check_eq(told(b"a::_::b"), (9, 4))?;
+        check_eq(told(b"caf\xc3\xa9"), (9, 3))?;
+        check_eq(told(b"\xff"), (9, 0))
+    }
+
+    #[test]
+    fn words_that_cannot_stand() -> Result<(), Fail> {
+        check_eq(told(b"crate::self"), (9, 7))?;
+        check_eq(told(b"a::super"), (9, 3))?;
+        check_eq(told(b"a::crate-"), (9, 3))?;
+        check_eq(told(b"super::self"), (9, 7))?;
+        check_eq(told(b"self::self"), (9, 6))?;
+        check_eq(told(b"::crate"), (9, 2))?;
+        check_eq(told(b"xself::9"), (9, 7))
+    }
+
+    const BUILT_IN: &[u8] =
+        b"char\nbool\nstr\nisize\ni8\ni16\ni32\ni64\ni128\nusize\nu8\nu16\nu32\nu64\nu128\nf16\nf32\nf64\nf128\n";
+
+    // The line at fault of a list that begins with the built-in names; 99 where the list fits.
+    fn fault_of(rt: &LibcRuntime, more: &[u8], names: u32) -> Result<usize, Fail> {
+        let mut bytes = BUILT_IN.to_vec(rt.alloc())?;
+        bytes.extend_from_slice(more)?;
+        match NameList::new(bytes.as_slice(), names) {
+            Ok(_) => Ok(99),
+            Err(fault) => {
+                check_eq(fault.told().number, 8)?;
+                Ok(fault.told().place)
+            }
+        }
+    }
+
+    #[test]
+    fn name_lists(rt: LibcRuntime) -> Result<(), Fail> {
+        check_eq(fault_of(&rt, b"", 19)?, 99)?;
+        check_eq(fault_of(&rt, b"a\nb\n", 21)?, 99)?;
+        check_eq(fault_of(&rt, b"a\nb\n", 22)?, 21).note("a line is missing")?;
+        check_eq(fault_of(&rt, b"a\nb\n", 20)?, 20).note("a line is one too many")?;
+        check_eq(fault_of(&rt, b"a\nb", 21)?, 20).note("the last line is unfinished")?;
+        check_eq(fault_of(&rt, b"", 3)?, 3).note("fewer names than built-in ones")?;
+        check(NameList::new(b"char\nboole\n", 2).is_err())?;
+        check(NameList::new(b"", 0).is_err())
+    }
+
+    #[test]
+    fn numbers_of_names(rt: LibcRuntime) -> Result<(), Fail> {
+        let mut bytes = BUILT_IN.to_vec(rt.alloc())?;
+        bytes.extend_from_slice(b"a\nb\na\n\n")?;
+        let list = NameList::new(bytes.as_slice(), 23)
+            .ok()
+            .ok_or("the list does not fit")?;
+        check_eq(list.number(b"a").ok_or("no a")?.0, 19).note("the first line counts")?;
+        check_eq(list.number(b"f128").ok_or("no f128")?.0, 18)?;
+        check_eq(list.number(b"").ok_or("no empty name")?.0, 22)?;
+        check(list.number(b"c").is_none())?;
+        check(list.text(Name(23)).is_none())?;
+        check(list.text(Name(20)).ok_or("no line 20")? == b"b".as_slice())
+    }
+}
