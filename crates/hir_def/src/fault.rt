@@ -8,12 +8,18 @@ use std::fmt;
 pub enum Refusal {
     /// The module that asks does not exist.
     NoModule,
+    /// A path has more than 64 names.
+    TooManyNames,
+    /// A path has more than 255 `super`.
+    TooManySupers,
     /// A module, crate, enum or macro that an entry names does not exist.
     Dangling(usize),
     /// A row of the tables or a line of the name list breaks a rule: the first such row or line.
     BadRow(usize),
     /// A text is no path: the first byte that cannot go on, or the length.
     BadText(usize),
+    /// A name of a text is not in the name list: its first byte.
+    UnknownName(usize),
 }
 
 /// A refusal, under the layer that it comes from.
@@ -43,9 +49,12 @@ impl Refusal {
     {
         match self {
             Refusal::NoModule => 1,
+            Refusal::TooManyNames => 2,
+            Refusal::TooManySupers => 2,
             Refusal::Dangling(_) => 6,
             Refusal::BadRow(_) => 8,
             Refusal::BadText(_) => 9,
+            Refusal::UnknownName(_) => 10,
         }
     }
 
@@ -54,9 +63,12 @@ impl Refusal {
     {
         match self {
             Refusal::NoModule => 0,
+            Refusal::TooManyNames => 64,
+            Refusal::TooManySupers => 255,
             Refusal::Dangling(place) => place,
             Refusal::BadRow(place) => place,
             Refusal::BadText(place) => place,
+            Refusal::UnknownName(place) => place,
         }
     }
 }
@@ -97,12 +109,16 @@ pub impl fmt::Display for Refusal as RefusalDisplay {
         f.write_str(
             match self {
                 Refusal::NoModule => "the module that asks does not exist",
+                Refusal::TooManyNames => "the path has more than 64 names",
+                Refusal::TooManySupers => "the path has more than 255 `super`",
                 Refusal::Dangling(_) =>
                     "a module or a crate that the item's visibility names does not exist",
                 Refusal::BadRow(_) =>
                     "a row of the tables, or a line of the name list, breaks a rule or lies beyond a limit; the place is the first such row or line",
                 Refusal::BadText(_) =>
                     "the text is no path; the place is the first byte that cannot go on",
+                Refusal::UnknownName(_) =>
+                    "a name is not in the name list; the place is its first byte",
             },
         )
     }

@@ -29,11 +29,11 @@ use Rattle.path_text.proofs.Parsed.{Stopped, place, stopped-stop, parsed}
 use Rattle.path_text.proofs.Halting.{refused, not-colon, alone, any-name}
 use Rattle.path_text.proofs.Readings.{plain-path, led-path, Spoken, spoken}
 
-abbrev Verdict : List ℕ → Option ℕ → Type 0
+abbrev pub Verdict : List ℕ → Option ℕ → Type 0
 Verdict bs o = BySome o (IsPath bs) (λ e. RefusedAt IsPath bs e)
 
 -- words begin with no colon
-head-letter : (w rest : List ℕ) → Word w → NoColon (w ++ rest)
+pub head-letter : (w rest : List ℕ) → Word w → NoColon (w ++ rest)
 head-letter [] rest h = absurd h
 head-letter (b ∷ w) rest h = λ e. colon-letter b e (h .0)
   where
@@ -149,7 +149,7 @@ plain-verdict bs n = pick (parsed Nothing bs)
         (subst (RefusedAt IsPath bs) (let z : place p ≡ 0 + place p = omega arith in z)
         (refused Nothing IsPath NoColon plain-only plain-path bs n (plain-lead bs n) (word-lead bs n) p))
 
-verdict : (bs : List ℕ) → Verdict bs (stopOf bs)
+pub verdict : (bs : List ℕ) → Verdict bs (stopOf bs)
 verdict [] = plain-verdict [] tt
 verdict (b ∷ bs) = by-colon (cases-eq b 58) bs
   where

@@ -8,3 +8,9 @@ pub mod Halting
 pub mod Steps
 pub mod Readings
 pub mod Exact
+pub mod Spans
+pub mod Starts
+pub mod Numbered
+pub mod PathsRead
+pub mod Unique
+pub mod ReadLaws

@@ -24,7 +24,7 @@ unlike : {X : Type 0} (b : Bool) → b ≡ true → b ≡ false → X
 unlike b e f = absurd (let z : _≡_ {A = ℕ} 0 1 = cc in omega arith)
 
 -- a name's kind, and a word whose kind is a name's
-name-kind : (w : List ℕ) → IsName w → wordOf w ≡ kind.Name
+pub name-kind : (w : List ℕ) → IsName w → wordOf w ≡ kind.Name
 name-kind w n =
     go (sameBytes w (codes "crate")) (sameBytes w (codes "self")) (sameBytes w (codes "super")) (sameBytes w (codes "_"))
     (λ e. n .not-crate (sameBytes-decides w (codes "crate") .0 e)) (λ e. n .not-self (sameBytes-decides w (codes "self") .0 e)) (λ e. n .not-super (sameBytes-decides w (codes "super") .0 e)) (λ e. n .not-bare (sameBytes-decides w (codes "_") .0 e))

@@ -18,7 +18,7 @@ use Rattle.path_text.specs.Grammar.{Inners, Word}
 use Rattle.path_text.specs.Words.{NoInner}
 use Rattle.path_text.proofs.Spelled.{word-step}
 
-inners-front : (xs : List ℕ) (m : ℕ) → m ≤ length xs → ((k : ℕ) → k < m → inner (getD xs k 0) ≡ true) → Inners (take m xs)
+pub inners-front : (xs : List ℕ) (m : ℕ) → m ≤ length xs → ((k : ℕ) → k < m → inner (getD xs k 0) ≡ true) → Inners (take m xs)
 inners-front xs zero h all = tt
 inners-front [] (suc m) h all = tt
 inners-front (x ∷ xs) (suc m) h all = (all 0 (omega arith), inners-front xs m (le-of-suc-le-suc h) (λ k l. all (suc k) (suc-le-suc l)))
@@ -28,13 +28,13 @@ word-front xs zero p h e all = absurd (omega arith)
 word-front [] (suc m) p h e all = absurd (not-suc-le-zero h)
 word-front (x ∷ xs) (suc m) p h e all = (e, inners-front xs m (le-of-suc-le-suc h) (λ k l. all (suc k) (omega arith) (suc-le-suc l)))
 
-ended-front : (xs : List ℕ) (m : ℕ) → (m < length xs → inner (getD xs m 0) ≡ false) → NoInner (drop m xs)
+pub ended-front : (xs : List ℕ) (m : ℕ) → (m < length xs → inner (getD xs m 0) ≡ false) → NoInner (drop m xs)
 ended-front [] zero h = tt
 ended-front (x ∷ xs) zero h = h (omega arith)
 ended-front [] (suc m) h = tt
 ended-front (x ∷ xs) (suc m) h = ended-front xs m (λ l. h (suc-le-suc l))
 
-length-front : (xs : List ℕ) (m : ℕ) → m ≤ length xs → length (take m xs) ≡ m
+pub length-front : (xs : List ℕ) (m : ℕ) → m ≤ length xs → length (take m xs) ≡ m
 length-front xs zero h = refl
 length-front [] (suc m) h = absurd (not-suc-le-zero h)
 length-front (x ∷ xs) (suc m) h = ap suc (length-front xs m (le-of-suc-le-suc h))

@@ -2,4 +2,5 @@
 pub mod mod_path;
 pub mod name_list;
 pub mod path_text;
+pub mod read;
 mod scan;

@@ -4,8 +4,14 @@ ghost use mathlib.Core.Bool.{true, false};
 ghost use Prim.Native.Nat.{ℕ, _+_, _^_, _<_, _≤_};
 ghost use lib.ListN.{length, getD};
 ghost use Rattle.std.specs.shelf.Text.{sameBytes};
+ghost use mathlib.Core.List.{map};
+ghost use Rattle.std.specs.Of.Vec.{vec-items};
+ghost use Rattle.std.specs.Vec.{made};
 ghost use Rattle.path_text.specs.Bytes.{letter, inner};
+ghost use Rattle.path_text.specs.Readings.{spanOf, spans};
 ghost use Rattle.path_text.specs.Scan.{wordOf, stands, after, barred, want, stop, stopOf};
+use std::alloc::AllocError;
+use std::alloc::Global;
 
 /// What a word is to a path.
 #[derive(Clone, Copy)]
@@ -50,7 +56,7 @@ fn same_text(a: &[u8], b: &[u8]) -> bool
     a == b
 }
 
-fn word_kind(w: &[u8]) -> WordKind
+pub(crate) fn word_kind(w: &[u8]) -> WordKind
     ensures { λ r. ⌜ r ≡ wordOf (now (w .entry)) ⌝ }
 {
     if same_text(w, b"crate") {
@@ -148,7 +154,41 @@ fn scan_words(s: &[u8], first: Before, offset: usize) -> Option<usize>
     }
 }
 
-fn has_colon(text: &[u8], at: usize) -> bool
+/// A word of a text, and the place of its first byte.
+#[derive(Clone, Copy)]
+pub(crate) struct Word<'a> {
+    pub(crate) text: &'a [u8],
+    pub(crate) place: usize,
+}
+
+// The words of a text, two bytes apart; the text begins at `offset`.
+pub(crate) fn split_words<'a>(
+    heap: Global,
+    text: &'a [u8],
+    offset: usize,
+) -> Result<Vec<Word<'a>>, AllocError>
+    requires { ⌜ offset + length (now text) < 2 ^ 64 ⌝ }
+    ensures { λ r. ⌜ made r (λ v. map spanOf (vec-items v) ≡ spans 0 (now (text .entry)) offset) ⌝ }
+{
+    let mut words = Vec::new(heap);
+    let mut rest = text;
+    let mut at = offset;
+    while rest.len() > 0 {
+        let len = word_len(rest);
+        words.push(Word {
+            text: &rest[0..len],
+            place: at,
+        })?;
+        if rest.len() - len < 2 {
+            return Ok(words);
+        }
+        rest = &rest[len + 2..];
+        at += len + 2;
+    }
+    Ok(words)
+}
+
+pub(crate) fn has_colon(text: &[u8], at: usize) -> bool
     ensures yes { λ r. ⌜ (r ≡ true → (at < length (now (text .entry))) × (getD (now (text .entry)) at 0 ≡ 58)) ⌝ }
     ensures none { λ r. ⌜ (r ≡ false → at < length (now (text .entry)) → getD (now (text .entry)) at 0 ≡ 58 → ⊥) ⌝ }
 {

@@ -2,8 +2,12 @@
 #[cfg(test)]
 mod tests {
     use hir_def::Name;
+    use path_text::mod_path::ModPath;
+    use path_text::mod_path::PathKind;
     use path_text::name_list::NameList;
     use path_text::path_text::check_path_text;
+    use path_text::read::Unread;
+    use path_text::read::read_path;
     use std::test::*;
 
     // The number and the place of a refused text; (0, 0) of a path.
@@ -110,5 +114,86 @@ mod tests {
         check(list.number(b"c").is_none())?;
         check(list.text(Name(23)).is_none())?;
         check(list.text(Name(20)).ok_or("no line 20")? == b"b".as_slice())
+    }
+
+    fn read(rt: &LibcRuntime, text: &[u8]) -> Result<Result<ModPath, Unread>, Fail> {
+        let mut bytes = BUILT_IN.to_vec(rt.alloc())?;
+        bytes.extend_from_slice(b"a\nb\na\n")?;
+        let list = NameList::new(bytes.as_slice(), 22)
+            .ok()
+            .ok_or("the list does not fit")?;
+        Ok(read_path(rt.alloc(), &list, text))
+    }
+
+    // The number and the place of a refusal; 0 and the number of names of a path.
+    fn read_told(rt: &LibcRuntime, text: &[u8]) -> Result<(u32, usize), Fail> {
+        match read(rt, text)? {
+            Ok(path) => Ok((0, path.names.len())),
+            Err(Unread::Refusal(fault)) => Ok((fault.told().number, fault.told().place)),
+            Err(Unread::Memory) => Ok((99, 0)),
+        }
+    }
+
+    // The level of `super`, or 1000 and more for the other kinds; then the last name's number, or 99.
+    fn read_as(rt: &LibcRuntime, text: &[u8]) -> Result<(u32, u32), Fail> {
+        let path = read(rt, text)?.ok().ok_or("the text was not read")?;
+        let kind = match path.kind {
+            PathKind::Plain => 1000,
+            PathKind::Super(level) => level,
+            PathKind::Crate => 1001,
+            PathKind::Abs => 1002,
+            PathKind::DollarCrate(_) => 1003,
+        };
+        match path.names.as_slice().last() {
+            Some(name) => Ok((kind, name.0)),
+            None => Ok((kind, 99)),
+        }
+    }
+
+    #[test]
+    fn kinds_and_numbers(rt: LibcRuntime) -> Result<(), Fail> {
+        check_eq(read_as(&rt, b"a")?, (1000, 19)).note("the first line counts")?;
+        check_eq(read_as(&rt, b"a::b")?, (1000, 20))?;
+        check_eq(read_as(&rt, b"::b")?, (1002, 20))?;
+        check_eq(read_as(&rt, b"crate")?, (1001, 99))?;
+        check_eq(read_as(&rt, b"crate::u8")?, (1001, 10))?;
+        check_eq(read_as(&rt, b"self")?, (0, 99))?;
+        check_eq(read_as(&rt, b"self::b")?, (0, 20))?;
+        check_eq(read_as(&rt, b"super")?, (1, 99))?;
+        check_eq(read_as(&rt, b"self::super::b")?, (1, 20))?;
+        check_eq(read_as(&rt, b"super::super::b")?, (2, 20))
+    }
+
+    #[test]
+    fn names_that_are_not_listed(rt: LibcRuntime) -> Result<(), Fail> {
+        check_eq(read_told(&rt, b"c")?, (10, 0))?;
+        check_eq(read_told(&rt, b"::c")?, (10, 2))?;
+        check_eq(read_told(&rt, b"a::c::d")?, (10, 3)).note("the first one is told")?;
+        check_eq(read_told(&rt, b"self::super::a::c")?, (10, 16))?;
+        check_eq(read_told(&rt, b"c::")?, (9, 3)).note("the text is tested before the names")
+    }
+
+    // A text repeated, and its end.
+    fn repeated(rt: &LibcRuntime, text: &[u8], times: usize, end: &[u8]) -> Result<Vec<u8>, Fail> {
+        let mut bytes = Vec::new(rt.alloc());
+        for _ in 0..times {
+            bytes.extend_from_slice(text)?;
+        }
+        bytes.extend_from_slice(end)?;
+        Ok(bytes)
+    }
+
+    #[test]
+    fn limits(rt: LibcRuntime) -> Result<(), Fail> {
+        let names = repeated(&rt, b"a::", 63, b"a")?;
+        check_eq(read_told(&rt, names.as_slice())?, (0, 64))?;
+        let names = repeated(&rt, b"a::", 64, b"a")?;
+        check_eq(read_told(&rt, names.as_slice())?, (2, 64))?;
+        let names = repeated(&rt, b"c::", 64, b"c")?;
+        check_eq(read_told(&rt, names.as_slice())?, (2, 64)).note("counts before names")?;
+        let supers = repeated(&rt, b"super::", 254, b"super")?;
+        check_eq(read_as(&rt, supers.as_slice())?, (255, 99))?;
+        let supers = repeated(&rt, b"super::", 255, b"super")?;
+        check_eq(read_told(&rt, supers.as_slice())?, (2, 255))
     }
 }
