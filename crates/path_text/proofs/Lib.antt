@@ -14,3 +14,4 @@ pub mod Numbered
 pub mod PathsRead
 pub mod Unique
 pub mod ReadLaws
+pub mod Writing

@@ -5,6 +5,7 @@ pub mod Grammar
 pub mod Words
 pub mod Places
 pub mod Texts
+pub mod Written
 pub mod Readings
 pub mod Numbers
 pub mod Paths

@@ -4,3 +4,4 @@ pub mod name_list;
 pub mod path_text;
 pub mod read;
 mod scan;
+pub mod write;

@@ -1,6 +1,7 @@
 // Tests of path text and name lists: what is accepted, and the place of each refusal.
 #[cfg(test)]
 mod tests {
+    use hir_def::CrateId;
     use hir_def::Name;
     use path_text::mod_path::ModPath;
     use path_text::mod_path::PathKind;
@@ -8,6 +9,7 @@ mod tests {
     use path_text::path_text::check_path_text;
     use path_text::read::Unread;
     use path_text::read::read_path;
+    use path_text::write::write_path;
     use std::test::*;
 
     // The number and the place of a refused text; (0, 0) of a path.
@@ -116,13 +118,28 @@ mod tests {
         check(list.text(Name(20)).ok_or("no line 20")? == b"b".as_slice())
     }
 
-    fn read(rt: &LibcRuntime, text: &[u8]) -> Result<Result<ModPath, Unread>, Fail> {
+    // The built-in names, then a (19), b (20) and a again (21).
+    fn names(rt: &LibcRuntime) -> Result<Vec<u8>, Fail> {
         let mut bytes = BUILT_IN.to_vec(rt.alloc())?;
         bytes.extend_from_slice(b"a\nb\na\n")?;
+        Ok(bytes)
+    }
+
+    fn read(rt: &LibcRuntime, text: &[u8]) -> Result<Result<ModPath, Unread>, Fail> {
+        let bytes = names(rt)?;
         let list = NameList::new(bytes.as_slice(), 22)
             .ok()
             .ok_or("the list does not fit")?;
         Ok(read_path(rt.alloc(), &list, text))
+    }
+
+    fn written(rt: &LibcRuntime, path: &ModPath) -> Result<Option<Vec<u8>>, Fail> {
+        let bytes = names(rt)?;
+        let list = NameList::new(bytes.as_slice(), 22)
+            .ok()
+            .ok_or("the list does not fit")?;
+        let text = write_path(rt.alloc(), &list, path)?;
+        Ok(text)
     }
 
     // The number and the place of a refusal; 0 and the number of names of a path.
@@ -195,5 +212,48 @@ mod tests {
         check_eq(read_as(&rt, supers.as_slice())?, (255, 99))?;
         let supers = repeated(&rt, b"super::", 255, b"super")?;
         check_eq(read_told(&rt, supers.as_slice())?, (2, 255))
+    }
+
+    // Whether the path of the text is written as `expected`.
+    fn comes_back(rt: &LibcRuntime, text: &[u8], expected: &[u8]) -> Result<bool, Fail> {
+        let path = read(rt, text)?.ok().ok_or("the text was not read")?;
+        let back = written(rt, &path)?.ok_or("a name has no line")?;
+        Ok(back.as_slice() == expected)
+    }
+
+    #[test]
+    fn paths_come_back(rt: LibcRuntime) -> Result<(), Fail> {
+        let texts: [&[u8]; 11] = [
+            b"a",
+            b"a::b::u8",
+            b"::a",
+            b"::b::a",
+            b"crate",
+            b"crate::a::b",
+            b"self",
+            b"self::b",
+            b"super",
+            b"super::super::super",
+            b"super::super::a::b",
+        ];
+        for text in texts {
+            check(comes_back(&rt, text, text)?)?;
+        }
+        let long = repeated(&rt, b"super::", 255, b"a")?;
+        check(comes_back(&rt, long.as_slice(), long.as_slice())?)?;
+        check(comes_back(&rt, b"self::super::a", b"super::a")?)
+    }
+
+    #[test]
+    fn paths_that_no_text_reads_as(rt: LibcRuntime) -> Result<(), Fail> {
+        let mut path = ModPath {
+            kind: PathKind::DollarCrate(CrateId(3)),
+            names: Vec::new(rt.alloc()),
+        };
+        path.names.push(Name(20))?;
+        let text = written(&rt, &path)?.ok_or("a name has no line")?;
+        check(text.as_slice() == b"$crate::b".as_slice())?;
+        path.names.push(Name(22))?;
+        check(written(&rt, &path)?.is_none()).note("22 has no line")
     }
 }
