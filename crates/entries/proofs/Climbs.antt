@@ -4,7 +4,7 @@ use Rattle.std.proofs.lemmas.Bool.{cases_lt}
 use Rattle.hir_def.specs.declared.ModuleId.{ModuleId}
 use Rattle.hir_def.specs.declared.BlockId.{BlockId}
 use Rattle.nameres.specs.Shapes.{Shape, Rules, ModuleIn, block_exit, exit_of, around, around_of}
-use Rattle.entries.specs.Sights.{chain, chain_of, inside, last_of, settled}
+use Rattle.entries.specs.Visibilities.{chain, chain_of, inside, last_of, settled}
 
 -- a step from m to p lowers the rank, and the ranks on the way are below the number of modules
 abbrev pub Lower : Shape → (ModuleId → ℕ) → ModuleId → ModuleId → Type 0

@@ -1,2 +1,3 @@
 pub mod Climbs
-pub mod Sighted
+pub mod Viewed
+pub mod Visible

@@ -1,5 +1,5 @@
 -- Entries per namespace.
-use Rattle.std.specs.Prelude.{◌≡◌, Bool, false, cond, not, ◌&&◌, is_some, Some, None, Option}
+use Rattle.std.specs.Prelude.{◌≡◌, Bool, false, if◌then◌else◌, not, ◌&&◌, is_some, Some, None, Option}
 use Rattle.std.specs.Option.{option_or}
 use Rattle.hir_def.specs.declared.MacroId.{MacroId}
 use Rattle.hir_def.specs.declared.ModuleDefId.{ModuleDefId}
@@ -11,7 +11,7 @@ use Rattle.entries.specs.declared.per_ns.PerNs.{PerNs}
 use Rattle.entries.specs.declared.visibility.Visibility.{Visibility}
 use Rattle.hir_def.specs.Imports.{narrowed}
 use Rattle.nameres.specs.Shapes.{Shape}
-use Rattle.entries.specs.Sights.{visible}
+use Rattle.entries.specs.Visibilities.{visible}
 
 abbrev pub entry : {D M : Type 0} → D → Visibility → Option M → Option (Item D M)
 entry d v i = Some (record { def = d; vis = v; import = i })
@@ -26,6 +26,10 @@ both_equal eq (Some a) (Some b) = eq a b
 abbrev pub Both : {M : Type 0} → Option M → Option M → Type 0
 Both None o = ⊥
 Both (Some a) o = o ≡ Some a
+
+-- the same present import, for another def
+abbrev pub reresolved_by : {D M : Type 0} → (D → D → Bool) → (M → M → Bool) → Item D M → D → Option M → Bool
+reresolved_by same_def same_import it d i = both_equal same_import it.import i && not (same_def it.def d)
 
 abbrev pub nothing : PerNs
 nothing = record { types = None; values = None; macros = None }
@@ -55,7 +59,7 @@ or_else p q = record { types = option_or p.types q.types; values = option_or p.v
 -- an entry, where it is visible
 abbrev pub kept : {D M : Type 0} → Shape → ModuleId → Option (Item D M) → Option (Item D M)
 kept t from None = None
-kept t from (Some it) = cond (visible t from it.vis) (Some it) None
+kept t from (Some it) = if visible t from it.vis then Some it else None
 
 abbrev pub kept_all : Shape → ModuleId → PerNs → PerNs
 kept_all t from p = record { types = kept t from p.types; values = kept t from p.values; macros = kept t from p.macros }

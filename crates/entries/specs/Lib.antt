@@ -1,2 +1,4 @@
-pub mod Sights
+pub mod Accounts
 pub mod Entries
+pub mod Viewers
+pub mod Visibilities

@@ -1,15 +1,15 @@
 // One name can stand for a type, a value and a macro at once: an entry for each namespace.
 ghost use Rattle.std.specs.Prelude.{◌≡◌, Bool, Decides};
-ghost use Rattle.entries.specs.Entries.{Both, both_equal, nothing, of_types, of_values, of_both, of_macros, is_nothing, is_full, or_else, kept, kept_all};
+ghost use Rattle.entries.specs.Entries.{Both, both_equal, reresolved_by, nothing, of_types, of_values, of_both, of_macros, is_nothing, is_full, or_else, kept, kept_all};
 
 use crate::visibility::Visibility;
 use hir_def::import::{ImportOrExternCrate, ImportOrGlob, import_or_glob};
-use hir_def::same::{Exact, same};
+use hir_def::lawful_eq::{LawfulEq, same};
 use hir_def::{MacroId, ModuleDefId, ModuleId};
 use nameres::Tree;
 
 /// An entry: what a name stands for, who may see it, and what imported it.
-#[derive(Clone, Copy)]
+#[derive(Clone, Copy, PartialEq, Eq, Hash, Debug)]
 pub struct Item<Def, Import> {
     pub def: Def,
     pub vis: Visibility,
@@ -22,7 +22,7 @@ pub type ValuesItem = Item<ModuleDefId, ImportOrGlob>;
 
 pub type MacrosItem = Item<MacroId, ImportOrExternCrate>;
 
-impl<Def: Exact, Import: Exact> Item<Def, Import> {
+impl<Def: LawfulEq, Import: LawfulEq> Item<Def, Import> {
     /// Whether the entry stands for `def`.
     pub fn same_def(self, def: Def) -> bool
         ensures value { result ≡ Def.PartialEq.eq self.def def }
@@ -41,6 +41,13 @@ impl<Def: Exact, Import: Exact> Item<Def, Import> {
             _ => false,
         }
     }
+
+    /// Whether `import`, which brought the entry, brings `def` now, and so another def.
+    pub fn is_reresolved_by(self, def: Def, import: Option<Import>) -> bool
+        ensures { result ≡ reresolved_by Def.PartialEq.eq Import.PartialEq.eq self def import }
+    {
+        self.same_import(import) && !self.same_def(def)
+    }
 }
 
 /// The entry, where `from` may see it.
@@ -54,7 +61,7 @@ pub fn filter_item<T: Tree, Def: Copy, Import: Copy>(
     item.filter(|it| it.vis.sees(tree, from))
 }
 
-#[derive(Clone, Copy)]
+#[derive(Clone, Copy, PartialEq, Eq, Hash, Debug)]
 pub struct PerNs {
     pub types: Option<TypesItem>,
     pub values: Option<ValuesItem>,

@@ -1,19 +1,19 @@
 // Who may see an item.
-ghost use Rattle.std.specs.Prelude.{◌≡◌, Bool, true, IfOk, Decides};
-ghost use Rattle.entries.specs.Sights.{inside, settled, visible, named, asked, Sees, Apart};
+ghost use Rattle.std.specs.Prelude.{◌≡◌, true, IfOk, Decides};
+ghost use Rattle.entries.specs.Visibilities.{inside, settled, visible, named, asked, Sees, Apart};
 
-use hir_def::fault::{Fault, Refusal};
+use hir_def::fault::TreeFault;
 use hir_def::{CrateId, ModuleId};
 use nameres::{Tree, block_exit, containing_module};
 
 /// Whether a module visibility was written, or is the default. It never alters who may see.
-#[derive(Clone, Copy)]
+#[derive(Clone, Copy, PartialEq, Eq, Hash, Debug)]
 pub enum VisibilityExplicitness {
     Explicit,
     Implicit,
 }
 
-#[derive(Clone, Copy)]
+#[derive(Clone, Copy, PartialEq, Eq, Hash, Debug)]
 pub enum Visibility {
     /// Seen from that module and from all inside it.
     Module(ModuleId, VisibilityExplicitness),
@@ -24,7 +24,7 @@ pub enum Visibility {
 }
 
 /// `m`, or the first module outward that is no block root.
-pub(crate) fn leave_blocks<T: Tree>(tree: &T, m: ModuleId) -> ModuleId
+pub fn leave_blocks<T: Tree>(tree: &T, m: ModuleId) -> ModuleId
     ensures { result ≡ settled (T.shape tree.now) m }
 {
     let mut here = m;
@@ -73,24 +73,18 @@ impl Visibility {
         }
     }
 
-    fn ask<T: Tree>(self, tree: &T, from: ModuleId) -> Result<bool, Fault>
-        ensures { result ≡ asked (T.shape tree.now) from self }
-    {
-        if from.0 >= tree.modules() {
-            return Err(Fault::Tree(Refusal::NoModule));
-        }
-        if !self.is_named(tree) {
-            return Err(Fault::Tree(Refusal::Dangling(0)));
-        }
-        Ok(self.sees(tree, from))
-    }
-
     /// Whether `from` may see what has this visibility; numbers that do not exist are refused.
-    pub fn is_visible_from<T: Tree>(self, tree: &T, from: ModuleId) -> Result<bool, Fault>
+    pub fn is_visible_from<T: Tree>(self, tree: &T, from: ModuleId) -> Result<bool, TreeFault>
         ensures value { result ≡ asked (T.shape tree.now) from self }
         ensures means { IfOk result (λ seen. Decides seen (Sees (T.shape tree.now) from self)) }
         ensures apart { IfOk result (λ seen. seen ≡ true → Apart (T.shape tree.now) from self) }
     {
-        self.ask(tree, from)
+        if from.0 >= tree.modules() {
+            return Err(TreeFault::NoModule);
+        }
+        if !self.is_named(tree) {
+            return Err(TreeFault::Dangling);
+        }
+        Ok(self.sees(tree, from))
     }
 }

@@ -5,12 +5,12 @@ use Rattle.std.proofs.lemmas.Option.{slice_get-get_or}
 use Rattle.path_text.specs.declared.mod_path.ModPath.{ModPath}
 use Rattle.path_text.specs.Laws.{IsRead, Denies}
 use Rattle.hir_def.specs.declared.fault.Failure.{Failure}
-use Rattle.hir_def.specs.declared.fault.Failure.TheVariants as reason
+use Rattle.hir_def.specs.declared.fault.Failure.TheVariants.{Memory, Refused}
+use Rattle.hir_def.specs.declared.fault.TextFault.{TextFault}
 use Rattle.hir_def.specs.Faults.{IfRefused}
-use Rattle.firmware.specs.declared.complaint.Unread.{Unread}
-use Rattle.firmware.specs.declared.complaint.Unread.TheVariants.{Memory, Bad}
+use Rattle.firmware.specs.declared.complaint.Complaint.{Complaint}
 use Rattle.firmware.specs.declared.words.Word.{Word}
-use Rattle.firmware.specs.Paths.{AllRead, FirstBad, IfBad, Tells}
+use Rattle.firmware.specs.Paths.{AllRead, FirstBad, Tells}
 
 module _ (ls : List (List ℕ)) where
   one_more : (ws : List Word) (ps : List ModPath) (w : Word) (p : ModPath) → AllRead ls ws ps → IsRead ls w.text.now p.kind (vec_items p.names) → AllRead ls (ws ++ w ∷ []) (ps ++ p ∷ [])
@@ -27,19 +27,9 @@ module _ (ls : List (List ℕ)) where
   read_all xs i ps h a = subst (λ (l : List Word). AllRead ls l ps) (take_all i xs h) a
 
   -- why a word was not read, and what is then told of all words
-  pub first-bad : (xs : List Word) (i : ℕ) (d : Word) → i < length xs → (ps : List ModPath) → AllRead ls (take i xs) ps → (u : Failure) → IfRefused (Denies ls (get_or xs i d).text.now) u → (r : Unread) → Tells (get_or xs i d) u r → IfBad (FirstBad ls xs) r
-  first-bad xs i d h ps a (reason.Memory e) n (Memory m) t = tt
-  first-bad xs i d h ps a (reason.Memory e) n (Bad c) t = absurd (cc)
-  first-bad xs i d h ps a (reason.Refused f) n (Memory m) t = absurd t
-  first-bad xs i d h ps a (reason.Refused f) n (Bad c) t =
-      record {
-        number = i;
-        read = ps;
-        before = a;
-        word = get_or xs i d;
-        here = slice_get-get_or xs i d h;
-        fault = f;
-        denied = n;
-        line = t.0;
-        column = t.1;
-      }
+  pub first_bad : (xs : List Word) (i : ℕ) (d : Word) → i < length xs → (ps : List ModPath) → AllRead ls (take i xs) ps → (u : Failure TextFault) → IfRefused (Denies ls (get_or xs i d).text.now) u → (r : Failure Complaint) → Tells (get_or xs i d) u r → IfRefused (FirstBad ls xs) r
+  first_bad xs i d h ps a (Memory e) n (Memory m) t = tt
+  first_bad xs i d h ps a (Memory e) n (Refused c) t = absurd (cc)
+  first_bad xs i d h ps a (Refused f) n (Memory m) t = absurd t
+  first_bad xs i d h ps a (Refused f) n (Refused c) t =
+      record { number = i; read = ps; before = a; word = get_or xs i d; here = slice_get-get_or xs i d h; fault = f; denied = n; tells = t }

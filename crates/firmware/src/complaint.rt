@@ -1,10 +1,10 @@
 // What is wrong with a file, where, and what was expected there.
-ghost use Rattle.std.specs.Prelude.{◌≡◌, alloc_error};
-ghost use Rattle.firmware.specs.declared.complaint.Unread.TheVariants.{Memory, Bad as Told};
+ghost use Rattle.std.specs.Prelude.{◌≡◌};
+ghost use Rattle.hir_def.specs.declared.fault.Failure.TheVariants.{Refused};
 
-use std::alloc::{AllocError, AllocFailed};
+use hir_def::fault::Failure;
 
-#[derive(Clone, Copy)]
+#[derive(Clone, Copy, PartialEq, Eq, Debug)]
 pub(crate) struct Complaint {
     /// Lines count from 1.
     pub line: usize,
@@ -14,33 +14,10 @@ pub(crate) struct Complaint {
     pub expected: &'static str,
 }
 
-/// Why a file was not read.
-#[derive(Clone, Copy)]
-pub(crate) enum Unread {
-    Memory(AllocError),
-    Bad(Complaint),
-}
+impl From<Complaint> for Failure<Complaint> {
+    ghost from_gives = { λ e r. r ≡ Refused e };
 
-impl From<AllocError> for Unread {
-    ghost from_gives = { λ e r. r ≡ Memory e };
-
-    fn from(e: AllocError) -> Unread {
-        Unread::Memory(e)
-    }
-}
-
-impl<T: Drop> From<AllocFailed<T>> for Unread {
-    ghost from_gives = { λ _ r. r ≡ Memory alloc_error };
-
-    fn from(e: AllocFailed<T>) -> Unread {
-        Unread::Memory(AllocError::from(e))
-    }
-}
-
-impl From<Complaint> for Unread {
-    ghost from_gives = { λ e r. r ≡ Told e };
-
-    fn from(e: Complaint) -> Unread {
-        Unread::Bad(e)
+    fn from(e: Complaint) -> Failure<Complaint> {
+        Failure::Refused(e)
     }
 }

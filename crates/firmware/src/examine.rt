@@ -1,9 +1,9 @@
 // The whole job on one file's text: read it, load its tree, and report on its items and paths.
-use crate::complaint::Unread;
+use crate::complaint::Complaint;
 use crate::path_words::read_paths;
 use crate::reader::Firmware;
 use crate::report::{Form, Paths, push_complaint, push_fault, push_report};
-use hir_def::fault::Fault;
+use hir_def::fault::{Failure, Fault};
 use nameres::tree_rows::Tables;
 use nameres::tree_table::TreeTable;
 use std::alloc::{AllocError, Global};
@@ -26,15 +26,15 @@ fn complain(
     alloc: Global,
     path: &str,
     text: &[u8],
-    unread: Unread,
+    failure: Failure<Complaint>,
     out: &mut String,
 ) -> Result<Wrote, AllocError> {
-    match unread {
-        Unread::Bad(complaint) => {
+    match failure {
+        Failure::Refused(complaint) => {
             push_complaint(alloc, out, path, text, complaint)?;
             Ok(Wrote::Complaint)
         }
-        Unread::Memory(e) => Err(e),
+        Failure::Memory(e) => Err(e),
     }
 }
 
@@ -57,7 +57,7 @@ fn examine_tree(
             push_report(alloc, out, firmware, &tree, paths, form)?;
             Ok(Wrote::Report)
         }
-        Err(fault) => refuse(out, path, "module tree", fault),
+        Err(fault) => refuse(out, path, "module tree", Fault::from(fault)),
     }
 }
 
@@ -72,7 +72,7 @@ fn examine_read(
 ) -> Result<Wrote, AllocError> {
     let list = match firmware.list.names() {
         Ok(list) => list,
-        Err(fault) => return refuse(out, path, "name list", fault),
+        Err(fault) => return refuse(out, path, "name list", Fault::from(fault)),
     };
     match read_paths(alloc, &list, firmware.paths.as_slice()) {
         Ok(paths) => {
@@ -82,7 +82,7 @@ fn examine_read(
             };
             examine_tree(alloc, path, firmware, paths, form, out)
         }
-        Err(unread) => complain(alloc, path, text, unread, out),
+        Err(failure) => complain(alloc, path, text, failure, out),
     }
 }
 
@@ -96,6 +96,6 @@ pub fn examine(
 ) -> Result<Wrote, AllocError> {
     match Firmware::read(alloc, text) {
         Ok(firmware) => examine_read(alloc, path, text, &firmware, form, out),
-        Err(unread) => complain(alloc, path, text, unread, out),
+        Err(failure) => complain(alloc, path, text, failure, out),
     }
 }

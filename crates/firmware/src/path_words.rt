@@ -1,37 +1,43 @@
 // The paths of a file, read by its name list.
-ghost use Rattle.std.specs.Prelude.{◌≡◌, MatchResult};
-ghost use Rattle.hir_def.specs.Faults.{refusal_of};
+ghost use Rattle.std.specs.Prelude.{MatchResult};
+ghost use Rattle.hir_def.specs.Faults.{IfRefused};
 ghost use Rattle.path_text.specs.Lists.{name_lines};
-ghost use Rattle.firmware.specs.Paths.{AllRead, FirstBad, IfBad, Tells, byte_of, column_at};
+ghost use Rattle.firmware.specs.Paths.{AllRead, FirstBad, Tells, TellsAt};
 
-use crate::complaint::{Complaint, Unread};
+use crate::complaint::Complaint;
 use crate::words::Word;
-use hir_def::fault::{Failure, Fault, Refusal};
+use hir_def::fault::{Failure, TextFault};
 use path_text::mod_path::ModPath;
 use path_text::name_list::NameList;
 use path_text::read::read_path;
 use std::alloc::Global;
 
-// What is wrong with a path, at the byte that the refusal tells. Counts tell no byte, and then it is the first.
-fn complaint_of(word: Word, fault: Fault) -> Complaint
-    ensures { (result.line ≡ word.entry.line) × (result.column ≡ column_at word.entry.column (byte_of (refusal_of fault))) }
+// What is wrong with a path, at the byte that the refusal tells. Counts tell no byte, and then it is the first; a line of the
+// name list is no matter of one path.
+fn complaint_of(word: Word, fault: TextFault) -> Complaint
+    ensures { TellsAt word.entry fault result }
 {
-    let (place, problem, expected) = match fault.refusal() {
-        Refusal::BadText(place) => (
+    let (place, problem, expected) = match fault {
+        TextFault::BadText(place) => (
             place,
             "the path cannot go on so",
             "names joined by `::`, after `crate`, `self`, `super` or `::`",
         ),
-        Refusal::UnknownName(place) => (
+        TextFault::UnknownName(place) => (
             place,
             "no statement declares this name",
             "the name of a crate, module, block or item, or a built-in name",
         ),
-        Refusal::TooManyNames => (0, "the path has more than 64 names", "at most 64 names"),
-        _ => (
+        TextFault::TooManyNames => (0, "the path has more than 64 names", "at most 64 names"),
+        TextFault::TooManySupers => (
             0,
             "the path has more than 255 `super`",
             "at most 255 `super`",
+        ),
+        TextFault::BadLine(_) => (
+            0,
+            "the names of this file do not make a name list",
+            "one line for each name, the built-in names first",
         ),
     };
     Complaint {
@@ -42,12 +48,12 @@ fn complaint_of(word: Word, fault: Fault) -> Complaint
     }
 }
 
-fn unread_of(word: Word, failure: Failure) -> Unread
+fn failure_of(word: Word, failure: Failure<TextFault>) -> Failure<Complaint>
     ensures { Tells word.entry failure result }
 {
     match failure {
-        Failure::Refused(fault) => Unread::Bad(complaint_of(word, fault)),
-        Failure::Memory(e) => Unread::Memory(e),
+        Failure::Refused(fault) => Failure::Refused(complaint_of(word, fault)),
+        Failure::Memory(e) => Failure::Memory(e),
     }
 }
 
@@ -56,14 +62,14 @@ pub(crate) fn read_paths(
     alloc: Global,
     list: &NameList,
     words: &[Word],
-) -> Result<Vec<ModPath>, Unread>
-    ensures { MatchResult result (λ v. AllRead (name_lines list.now) words.now v.items) (IfBad (FirstBad (name_lines list.now) words.now)) }
+) -> Result<Vec<ModPath>, Failure<Complaint>>
+    ensures { MatchResult result (λ v. AllRead (name_lines list.now) words.now v.items) (IfRefused (FirstBad (name_lines list.now) words.now)) }
 {
     let mut paths = Vec::new(alloc);
     for word in words.iter() {
         match read_path(alloc, list, word.text) {
             Ok(path) => paths.push(path)?,
-            Err(failure) => return Err(unread_of(*word, failure)),
+            Err(failure) => return Err(failure_of(*word, failure)),
         }
     }
     Ok(paths)

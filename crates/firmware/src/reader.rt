@@ -1,11 +1,13 @@
 // Reads a firmware file into the tables of its module tree and the list of its items.
 ghost use Rattle.std.specs.Prelude.{◌≤◌, length};
 
-use crate::complaint::{Complaint, Unread};
-use crate::statement::{Sight, Statement};
+use crate::complaint::Complaint;
+use crate::statement::{RawVisibility, Statement};
 use crate::words::{Word, Words};
 use entries::visibility::{Visibility, VisibilityExplicitness};
-use hir_def::{BlockId, CrateId, Edition, ModuleId};
+use hir_def::edition::Edition;
+use hir_def::fault::Failure;
+use hir_def::{BlockId, CrateId, ModuleId};
 use nameres::tree_rows::{BlockRow, CrateRow, ModuleRow};
 use path_text::path_text::is_name;
 use paths::listing::Listing;
@@ -128,7 +130,7 @@ pub(crate) fn line_of(text: &[u8], line: usize) -> &[u8] {
 }
 
 impl<'a> Firmware<'a> {
-    fn new(alloc: Global) -> Result<Firmware<'a>, Unread> {
+    fn new(alloc: Global) -> Result<Firmware<'a>, Failure<Complaint>> {
         Ok(Firmware {
             names: Vec::new(alloc),
             modules: Vec::new(alloc),
@@ -142,7 +144,7 @@ impl<'a> Firmware<'a> {
     }
 
     // The name of a statement, which the paths of the file may have.
-    fn list_name(&mut self, word: Word<'a>) -> Result<&'a str, Unread> {
+    fn list_name(&mut self, word: Word<'a>) -> Result<&'a str, Failure<Complaint>> {
         let name = name_of(word)?;
         self.list.add(word.text)?;
         Ok(name)
@@ -161,9 +163,9 @@ impl<'a> Firmware<'a> {
         krate: CrateId,
         block: Option<BlockId>,
         parent: Option<ModuleId>,
-    ) -> Result<(), Unread> {
+    ) -> Result<(), Failure<Complaint>> {
         if self.by_name.contains_key(word.text) {
-            return Err(Unread::Bad(word.complaint(
+            return Err(Failure::Refused(word.complaint(
                 "a module of this name is declared above",
                 "a name of its own",
             )));
@@ -179,7 +181,7 @@ impl<'a> Firmware<'a> {
         Ok(())
     }
 
-    fn add_crate(&mut self, word: Word<'a>, edition: Edition) -> Result<(), Unread> {
+    fn add_crate(&mut self, word: Word<'a>, edition: Edition) -> Result<(), Failure<Complaint>> {
         self.list_name(word)?;
         let krate = CrateId(number(word, self.crates.len())?);
         let root = ModuleId(number(word, self.modules.len())?);
@@ -187,14 +189,14 @@ impl<'a> Firmware<'a> {
         self.add_module(word, krate, None, None)
     }
 
-    fn add_inner(&mut self, word: Word<'a>) -> Result<(), Unread> {
+    fn add_inner(&mut self, word: Word<'a>) -> Result<(), Failure<Complaint>> {
         let (outer, name) = split(word)?;
         self.list_name(name)?;
         let parent = self.known(outer)?;
         self.add_module(word, parent.krate, parent.block, Some(parent.id))
     }
 
-    fn add_block(&mut self, word: Word<'a>) -> Result<(), Unread> {
+    fn add_block(&mut self, word: Word<'a>) -> Result<(), Failure<Complaint>> {
         let (outer, name) = split(word)?;
         self.list_name(name)?;
         let outside = self.known(outer)?;
@@ -207,12 +209,15 @@ impl<'a> Firmware<'a> {
         self.add_module(word, outside.krate, Some(block), None)
     }
 
-    fn visibility(&self, at: Known, sight: Sight<'a>) -> Result<Visibility, Complaint> {
-        match sight {
-            Sight::Public => Ok(Visibility::Public),
-            Sight::Crate => Ok(Visibility::PubCrate(at.krate)),
-            Sight::Private => Ok(Visibility::Module(at.id, VisibilityExplicitness::Implicit)),
-            Sight::In(word) => {
+    fn visibility(&self, at: Known, raw: RawVisibility<'a>) -> Result<Visibility, Complaint> {
+        match raw {
+            RawVisibility::Public => Ok(Visibility::Public),
+            RawVisibility::Crate => Ok(Visibility::PubCrate(at.krate)),
+            RawVisibility::Private => Ok(Visibility::Module(
+                at.id,
+                VisibilityExplicitness::Implicit,
+            )),
+            RawVisibility::In(word) => {
                 let module = match numbered(word.text) {
                     Some(row) => ModuleId(row),
                     None => self.known(word)?.id,
@@ -226,11 +231,11 @@ impl<'a> Firmware<'a> {
         &mut self,
         word: Word<'a>,
         module: Word<'a>,
-        sight: Sight<'a>,
-    ) -> Result<(), Unread> {
+        raw: RawVisibility<'a>,
+    ) -> Result<(), Failure<Complaint>> {
         let name = self.list_name(word)?;
         let at = self.known(module)?;
-        let vis = self.visibility(at, sight)?;
+        let vis = self.visibility(at, raw)?;
         self.items.push(Declared {
             name,
             module: text_of(module)?,
@@ -239,18 +244,18 @@ impl<'a> Firmware<'a> {
         Ok(())
     }
 
-    fn add(&mut self, statement: Statement<'a>) -> Result<(), Unread> {
+    fn add(&mut self, statement: Statement<'a>) -> Result<(), Failure<Complaint>> {
         match statement {
             Statement::Crate(name, edition) => self.add_crate(name, edition),
             Statement::Module(name) => self.add_inner(name),
             Statement::Block(name) => self.add_block(name),
-            Statement::Item(name, module, sight) => self.add_item(name, module, sight),
+            Statement::Item(name, module, raw) => self.add_item(name, module, raw),
             Statement::Path(text) => Ok(self.paths.push(text)?),
         }
     }
 
     /// Reads a whole file, or says what is wrong with its first bad line.
-    pub(crate) fn read(alloc: Global, text: &'a [u8]) -> Result<Firmware<'a>, Unread> {
+    pub(crate) fn read(alloc: Global, text: &'a [u8]) -> Result<Firmware<'a>, Failure<Complaint>> {
         let mut firmware = Firmware::new(alloc)?;
         let mut at = 0usize;
         let mut line = 0usize;

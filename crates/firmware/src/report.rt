@@ -1,8 +1,8 @@
 // The report on a firmware file: for people, or one line per item and path for programs.
 use crate::complaint::Complaint;
 use crate::reader::{Declared, Firmware, line_of};
-use account::tally::Account;
-use account::viewers::viewers;
+use entries::account::Account;
+use entries::viewers::viewers;
 use entries::visibility::{Visibility, VisibilityExplicitness};
 use hir_def::ModuleId;
 use hir_def::fault::{Failure, Fault};
@@ -69,14 +69,13 @@ fn push_visibility(
 
 /// A refusal as a person reads it: its layer, number and place, and what it means.
 pub(crate) fn push_fault(out: &mut String, fault: Fault) -> Result<(), AllocError> {
-    let told = fault.told();
-    let layer = told.layer;
-    let number = told.number;
-    let place = told.place;
-    let refusal = fault.refusal();
+    let code = fault.code();
+    let layer = code.layer;
+    let number = code.number;
+    let place = code.place;
     write!(
         out,
-        "layer {layer}, number {number}, place {place}: {refusal}"
+        "layer {layer}, number {number}, place {place}: {fault}"
     )
 }
 
@@ -135,11 +134,8 @@ fn push_refused(
             out.push_str("\n")
         }
         Form::ForPrograms => {
-            let told = fault.told();
-            let layer = told.layer;
-            let number = told.number;
-            let place = told.place;
-            writeln!(out, "refused {name} {module} {layer} {number} {place}")
+            let code = fault.code();
+            writeln!(out, "refused {name} {module} {code}")
         }
     }
 }
@@ -196,7 +192,7 @@ fn push_items<T: Tree>(
             }
             Err(Failure::Refused(fault)) => {
                 account.add_refused();
-                push_refused(out, firmware, *item, fault, form)?;
+                push_refused(out, firmware, *item, Fault::from(fault), form)?;
             }
             Err(Failure::Memory(e)) => return Err(e),
         }

@@ -1,10 +1,11 @@
 // One statement of a firmware file, as its words say it.
 use crate::complaint::Complaint;
 use crate::words::{Word, Words};
-use hir_def::Edition;
+use hir_def::edition::Edition;
 
+/// A visibility as it is written.
 #[derive(Clone, Copy)]
-pub(crate) enum Sight<'a> {
+pub(crate) enum RawVisibility<'a> {
     Public,
     Crate,
     In(Word<'a>),
@@ -17,26 +18,19 @@ pub(crate) enum Statement<'a> {
     Module(Word<'a>),
     Block(Word<'a>),
     /// An item's name, the module it stands in, and its visibility.
-    Item(Word<'a>, Word<'a>, Sight<'a>),
+    Item(Word<'a>, Word<'a>, RawVisibility<'a>),
     Path(Word<'a>),
 }
 
 const EDITION: &str = "an edition: 2015, 2018, 2021 or 2024";
 
-const SIGHT: &str = "a visibility: `pub`, `pub(crate)`, `pub(in MODULE)` or `private`";
+const VISIBILITY: &str = "a visibility: `pub`, `pub(crate)`, `pub(in MODULE)` or `private`";
 
 fn read_edition(word: Word) -> Result<Edition, Complaint> {
-    if word.is("2015") {
-        Ok(Edition::Edition2015)
-    } else if word.is("2018") {
-        Ok(Edition::Edition2018)
-    } else if word.is("2021") {
-        Ok(Edition::Edition2021)
-    } else if word.is("2024") {
-        Ok(Edition::Edition2024)
-    } else {
-        Err(word.complaint("this is no edition", EDITION))
-    }
+    std::str::from_utf8(word.text)
+        .ok()
+        .and_then(|text| text.parse::<Edition>().ok())
+        .ok_or(word.complaint("this is no edition", EDITION))
 }
 
 // `MODULE)`, after `pub(in`.
@@ -54,19 +48,19 @@ fn closed<'a>(word: Word<'a>) -> Result<Word<'a>, Complaint> {
     }
 }
 
-fn read_sight<'a>(words: &mut Words<'a>) -> Result<Sight<'a>, Complaint> {
-    let word = words.expect(SIGHT)?;
+fn read_visibility<'a>(words: &mut Words<'a>) -> Result<RawVisibility<'a>, Complaint> {
+    let word = words.expect(VISIBILITY)?;
     if word.is("pub") {
-        Ok(Sight::Public)
+        Ok(RawVisibility::Public)
     } else if word.is("pub(crate)") {
-        Ok(Sight::Crate)
+        Ok(RawVisibility::Crate)
     } else if word.is("private") {
-        Ok(Sight::Private)
+        Ok(RawVisibility::Private)
     } else if word.is("pub(in") {
         let module = words.expect("a module, as in `pub(in raid::layout)`")?;
-        Ok(Sight::In(closed(module)?))
+        Ok(RawVisibility::In(closed(module)?))
     } else {
-        Err(word.complaint("this is no visibility", SIGHT))
+        Err(word.complaint("this is no visibility", VISIBILITY))
     }
 }
 
@@ -80,7 +74,7 @@ fn read_item<'a>(words: &mut Words<'a>) -> Result<Statement<'a>, Complaint> {
         ));
     }
     let module = words.expect("the module that the item stands in")?;
-    Ok(Statement::Item(name, module, read_sight(words)?))
+    Ok(Statement::Item(name, module, read_visibility(words)?))
 }
 
 impl<'a> Statement<'a> {

@@ -28,37 +28,37 @@ at_row (r ∷ rs) k t (suc i) d h =
     let below : i < length rs = omega arith in
     omega (arith, at_row rs (k + 1) (and_parts (eqb (number_of r.1) k) _ t).1 i d below)
 
-name-of-row : (n : Name) → n.0 < 19 → name_of (row n).1 ≡ n
-name-of-row n h = let e : number_of (row n).1 ≡ n.0 = omega (arith, at_row table 0 refl n.0 ([], Char) h) in λ i. record { 0 = e i }
+name_of_row : (n : Name) → n.0 < 19 → name_of (row n).1 ≡ n
+name_of_row n h = let e : number_of (row n).1 ≡ n.0 = omega (arith, at_row table 0 refl n.0 ([], Char) h) in λ i. record { 0 = e i }
 
 -- what an answer by the table names
-pub by-table : (n : Name) (r : Option BuiltinType) → r ≡ type_at n → record { value : r ≡ type_at n; names : MatchOption r (19 ≤ n.0) (λ b. name_of b ≡ n) }
-by-table n r e = record { value = e; names = subst (λ (o : Option BuiltinType). MatchOption o (19 ≤ n.0) (λ b. name_of b ≡ n)) (sym e) (told (ltb n.0 19) refl) }
+pub by_table : (n : Name) (r : Option BuiltinType) → r ≡ type_at n → record { value : r ≡ type_at n; names : MatchOption r (19 ≤ n.0) (λ b. name_of b ≡ n) }
+by_table n r e = record { value = e; names = subst (λ (o : Option BuiltinType). MatchOption o (19 ≤ n.0) (λ b. name_of b ≡ n)) (sym e) (told (ltb n.0 19) refl) }
   where
     told : (t : Bool) → ltb n.0 19 ≡ t → MatchOption (cond t (Some (row n).1) None) (19 ≤ n.0) (λ b. name_of b ≡ n)
-    told true t = name-of-row n (ltb-true n.0 19 t)
+    told true t = name_of_row n (ltb-true n.0 19 t)
     told false t = ltb-false n.0 19 t
 
-pub type-of-name : (b : BuiltinType) → type_at (name_of b) ≡ Some b
-type-of-name Char = refl
-type-of-name Boolean = refl
-type-of-name Str = refl
-type-of-name (Int Isize) = refl
-type-of-name (Int I8) = refl
-type-of-name (Int I16) = refl
-type-of-name (Int I32) = refl
-type-of-name (Int I64) = refl
-type-of-name (Int I128) = refl
-type-of-name (Uint Usize) = refl
-type-of-name (Uint U8) = refl
-type-of-name (Uint U16) = refl
-type-of-name (Uint U32) = refl
-type-of-name (Uint U64) = refl
-type-of-name (Uint U128) = refl
-type-of-name (Float F16) = refl
-type-of-name (Float F32) = refl
-type-of-name (Float F64) = refl
-type-of-name (Float F128) = refl
+pub type_of_name : (b : BuiltinType) → type_at (name_of b) ≡ Some b
+type_of_name Char = refl
+type_of_name Boolean = refl
+type_of_name Str = refl
+type_of_name (Int Isize) = refl
+type_of_name (Int I8) = refl
+type_of_name (Int I16) = refl
+type_of_name (Int I32) = refl
+type_of_name (Int I64) = refl
+type_of_name (Int I128) = refl
+type_of_name (Uint Usize) = refl
+type_of_name (Uint U8) = refl
+type_of_name (Uint U16) = refl
+type_of_name (Uint U32) = refl
+type_of_name (Uint U64) = refl
+type_of_name (Uint U128) = refl
+type_of_name (Float F16) = refl
+type_of_name (Float F32) = refl
+type_of_name (Float F64) = refl
+type_of_name (Float F128) = refl
 
 pub int_tag : (i : BuiltinInt) → tag_of IntType i ≡ int_at i
 int_tag Isize = refl
@@ -68,13 +68,13 @@ int_tag I32 = refl
 int_tag I64 = refl
 int_tag I128 = refl
 
-pub uint-tag : (u : BuiltinUint) → tag_of UintType u ≡ uint_at u
-uint-tag Usize = refl
-uint-tag U8 = refl
-uint-tag U16 = refl
-uint-tag U32 = refl
-uint-tag U64 = refl
-uint-tag U128 = refl
+pub uint_tag : (u : BuiltinUint) → tag_of UintType u ≡ uint_at u
+uint_tag Usize = refl
+uint_tag U8 = refl
+uint_tag U16 = refl
+uint_tag U32 = refl
+uint_tag U64 = refl
+uint_tag U128 = refl
 
 pub float_tag : (f : BuiltinFloat) → tag_of FloatType f ≡ float_at f
 float_tag F16 = refl
@@ -85,4 +85,4 @@ float_tag F128 = refl
 pub named : (b : BuiltinType) (n : Name) → n.0 ≡ number_of b → record { value : n ≡ name_of b; found : type_at n ≡ Some b }
 named b n e =
     let same : n ≡ name_of b = λ i. record { 0 = e i } in
-    record { value = same; found = ap type_at same ∙ type-of-name b }
+    record { value = same; found = ap type_at same ∙ type_of_name b }

@@ -4,7 +4,7 @@ ghost use Rattle.hir_def.specs.Builtins.{type_at, text_at, name_of};
 
 use crate::Name;
 
-#[derive(Clone, Copy, PartialEq, Eq)]
+#[derive(Clone, Copy, PartialEq, Eq, Hash, Debug)]
 pub enum BuiltinInt {
     Isize,
     I8,
@@ -14,7 +14,7 @@ pub enum BuiltinInt {
     I128,
 }
 
-#[derive(Clone, Copy, PartialEq, Eq)]
+#[derive(Clone, Copy, PartialEq, Eq, Hash, Debug)]
 pub enum BuiltinUint {
     Usize,
     U8,
@@ -24,7 +24,7 @@ pub enum BuiltinUint {
     U128,
 }
 
-#[derive(Clone, Copy, PartialEq, Eq)]
+#[derive(Clone, Copy, PartialEq, Eq, Hash, Debug)]
 pub enum BuiltinFloat {
     F16,
     F32,
@@ -32,7 +32,7 @@ pub enum BuiltinFloat {
     F128,
 }
 
-#[derive(Clone, Copy, PartialEq, Eq)]
+#[derive(Clone, Copy, PartialEq, Eq, Hash, Debug)]
 pub enum BuiltinType {
     Char,
     Bool,
@@ -42,14 +42,14 @@ pub enum BuiltinType {
     Float(BuiltinFloat),
 }
 
-#[derive(Clone, Copy)]
+#[derive(Clone, Copy, Debug)]
 struct BuiltinRow {
     text: &'static str,
     ty: BuiltinType,
 }
 
-// By name number. A `static`: an index into a `const` would copy the whole table first.
-static BUILTINS: [BuiltinRow; 19] = [
+// By name number.
+const BUILTINS: &[BuiltinRow; 19] = &[
     BuiltinRow {
         text: "char",
         ty: BuiltinType::Char,
@@ -129,8 +129,11 @@ static BUILTINS: [BuiltinRow; 19] = [
 ];
 
 impl BuiltinType {
-    fn at(name: Name) -> Option<BuiltinType>
-        ensures { result ≡ type_at name }
+    /// The built-in type of that name, if it is one of the nineteen.
+    #[tactic(auto, using(crate::proofs::Tabled::by_table))]
+    pub fn by_name(name: Name) -> Option<BuiltinType>
+        ensures value { result ≡ type_at name }
+        ensures names { MatchOption result (19 ≤ name.0) (λ b. name_of b ≡ name) }
     {
         if name.0 < 19 {
             Some(BUILTINS[name.0 as usize].ty)
@@ -139,14 +142,7 @@ impl BuiltinType {
         }
     }
 
-    /// The built-in type of that name, if it is one of the nineteen.
-    pub fn by_name(name: Name) -> Option<BuiltinType>
-        ensures value { result ≡ type_at name }
-        ensures names { MatchOption result (19 ≤ name.0) (λ b. name_of b ≡ name) }
-    {
-        BuiltinType::at(name)
-    }
-
+    /// The name that the built-in type has.
     pub fn as_name(self) -> Name
         ensures value { result ≡ name_of self }
         ensures found { type_at result ≡ Some self }
@@ -161,7 +157,7 @@ impl BuiltinType {
         }
     }
 
-    /// The text of a built-in type's name.
+    /// The text of a built-in type's name, if that name is one of the nineteen.
     pub fn text(name: Name) -> Option<&'static str>
         ensures { MatchOption result (19 ≤ name.0) (λ t. (name.0 < 19) × (t.now ≡ text_at name)) }
     {

@@ -1,187 +1,356 @@
-// Refusals: the layer that refused, the number of the refusal and the place that it tells.
-ghost use Rattle.std.specs.Prelude.{◌≡◌, alloc_error};
+// Refusals: of which layer one is, why it was made, and the number and the place that it tells.
+ghost use Rattle.std.specs.Prelude.{◌≡◌, ◌+◌, alloc_error, Some};
+ghost use Rattle.hir_def.specs.declared.fault.Fault.TheVariants.{Text, Path, Tree, Index};
 ghost use Rattle.hir_def.specs.declared.fault.Failure.TheVariants.{Memory, Refused};
-ghost use Rattle.hir_def.specs.Faults.{number, place, layer_of, refusal_of, told};
+ghost use Rattle.hir_def.specs.Faults.{text_number, text_place, path_number, path_place, tree_number, tree_place, index_number, index_place, code_of, namespace_number};
+ghost use Rattle.hir_def.specs.FaultTexts.{layer_text, code_text};
 
+use crate::Namespace;
 use std::alloc::{AllocError, AllocFailed};
 use std::fmt;
+use thiserror::Error;
 
-/// Why a call was refused, with the place that it tells.
-#[derive(Clone, Copy)]
-pub enum Refusal {
-    /// The module that asks, or that a delivery is for, does not exist.
-    NoModule,
-    /// A path has more than 64 names.
+/// Why a text is no path, or a list no list of names.
+#[derive(Clone, Copy, PartialEq, Eq, Debug, Error)]
+pub enum TextFault {
+    #[error("the path has more than 64 names")]
     TooManyNames,
-    /// A path has more than 255 `super`.
+    #[error("the path has more than 255 `super`")]
     TooManySupers,
-    /// A name's number does not exist: its index in a path, 0 in a delivery.
-    NoName(usize),
-    /// A delivery fills no namespace.
-    NothingFilled,
-    /// A module, crate, enum or macro in an entry does not exist: the namespace of the entry.
-    Dangling(usize),
-    /// Fewer rows are free than a delivery may need: the free ones.
-    NoRows(usize),
-    /// A row of the tables or a line of the name list breaks a rule: the first such row or line.
-    BadRow(usize),
-    /// A text is no path: the first byte that cannot go on, or the length.
+    /// The first line at fault, from 0.
+    #[error("a line of the name list is missing, unfinished, one too many, or not the built-in name that belongs there; the place is the first such line")]
+    BadLine(usize),
+    /// The first byte that cannot go on, or the text's length.
+    #[error("the text is no path; the place is the first byte that cannot go on")]
     BadText(usize),
-    /// A name of a text is not in the name list: its first byte.
+    /// The name's first byte.
+    #[error("a name is not in the name list; the place is its first byte")]
     UnknownName(usize),
 }
 
-/// A refusal, under the layer that it comes from.
-#[derive(Clone, Copy)]
-pub enum Fault {
-    Text(Refusal),
-    Index(Refusal),
-    Tree(Refusal),
+/// Why a question is not answered.
+#[derive(Clone, Copy, PartialEq, Eq, Debug, Error)]
+pub enum PathFault {
+    #[error("the module that asks does not exist")]
+    NoModule,
+    #[error("the path has more than 64 names")]
+    TooManyNames,
+    #[error("the path has more than 255 `super`")]
+    TooManySupers,
+    #[error("the crate that `$crate` stands for does not exist")]
+    NoCrate,
+    /// The name's index in the path, from 0.
+    #[error("a name's number does not exist; the place is its index in the path")]
+    NoName(usize),
 }
 
-#[derive(Clone, Copy)]
+/// Why a module tree does not come in, or does not tell who may see an item.
+#[derive(Clone, Copy, PartialEq, Eq, Debug, Error)]
+pub enum TreeFault {
+    #[error("the module that asks does not exist")]
+    NoModule,
+    #[error("a module or a crate that the item's visibility names does not exist")]
+    Dangling,
+    /// The first row at fault, from 0 through modules, blocks and crates.
+    #[error("a row of the tree's tables breaks a rule or lies beyond a limit; the place is the first such row")]
+    BadRow(usize),
+}
+
+/// Why an index does not come in, or does not take a delivery.
+#[derive(Clone, Copy, PartialEq, Eq, Debug, Error)]
+pub enum IndexFault {
+    #[error("the module that receives does not exist")]
+    NoModule,
+    #[error("the name's number does not exist")]
+    NoName,
+    #[error("the delivery fills no namespace")]
+    NothingFilled,
+    /// The namespace of the first such entry.
+    #[error("a module, crate, enum or macro in an entry does not exist; the place is the entry's namespace: 0 types, 1 values, 2 macros")]
+    Dangling(Namespace),
+    /// How many rows are free.
+    #[error("fewer rows are free than the delivery fills namespaces; the place is the number of free rows")]
+    NoRows(usize),
+    /// The first row at fault, from 0 through the counts and the tables.
+    #[error("a row of the index's tables breaks a rule or lies beyond a limit; the place is the first such row")]
+    BadRow(usize),
+}
+
+/// A refusal under the layer that it comes from: the text of a path, a question, the tree's tables, an index.
+#[derive(Clone, Copy, PartialEq, Eq, Debug, Error)]
+pub enum Fault {
+    #[error(transparent)]
+    Text(TextFault),
+    #[error(transparent)]
+    Path(PathFault),
+    #[error(transparent)]
+    Tree(TreeFault),
+    #[error(transparent)]
+    Index(IndexFault),
+}
+
+#[derive(Clone, Copy, PartialEq, Eq, Debug)]
 pub enum Layer {
     Text,
-    Index,
+    Path,
     Tree,
+    Index,
 }
 
-/// A fault as numbers, the way a caller reports it.
-#[derive(Clone, Copy)]
-pub struct Told {
+/// A refusal as numbers, for programs.
+#[derive(Clone, Copy, PartialEq, Eq, Debug)]
+pub struct FaultCode {
     pub layer: Layer,
+    /// Which refusal it is, from 1 to 10.
     pub number: u32,
+    /// What the refusal tells beside its number; 0 where it tells nothing.
     pub place: usize,
 }
 
-impl Refusal {
+impl TextFault {
     fn number(self) -> u32
-        ensures { result ≡ number self }
+        ensures { result ≡ text_number self }
     {
         match self {
-            Refusal::NoModule => 1,
-            Refusal::TooManyNames => 2,
-            Refusal::TooManySupers => 2,
-            Refusal::NoName(_) => 4,
-            Refusal::NothingFilled => 5,
-            Refusal::Dangling(_) => 6,
-            Refusal::NoRows(_) => 7,
-            Refusal::BadRow(_) => 8,
-            Refusal::BadText(_) => 9,
-            Refusal::UnknownName(_) => 10,
+            TextFault::TooManyNames => 2,
+            TextFault::TooManySupers => 2,
+            TextFault::BadLine(_) => 8,
+            TextFault::BadText(_) => 9,
+            TextFault::UnknownName(_) => 10,
         }
     }
 
     fn place(self) -> usize
-        ensures { result ≡ place self }
+        ensures { result ≡ text_place self }
     {
         match self {
-            Refusal::NoModule => 0,
-            Refusal::TooManyNames => 64,
-            Refusal::TooManySupers => 255,
-            Refusal::NoName(place) => place,
-            Refusal::NothingFilled => 0,
-            Refusal::Dangling(place) => place,
-            Refusal::NoRows(left) => left,
-            Refusal::BadRow(place) => place,
-            Refusal::BadText(place) => place,
-            Refusal::UnknownName(place) => place,
+            TextFault::TooManyNames => 64,
+            TextFault::TooManySupers => 255,
+            TextFault::BadLine(line) => line,
+            TextFault::BadText(at) => at,
+            TextFault::UnknownName(at) => at,
+        }
+    }
+}
+
+impl PathFault {
+    fn number(self) -> u32
+        ensures { result ≡ path_number self }
+    {
+        match self {
+            PathFault::NoModule => 1,
+            PathFault::TooManyNames => 2,
+            PathFault::TooManySupers => 2,
+            PathFault::NoCrate => 3,
+            PathFault::NoName(_) => 4,
+        }
+    }
+
+    fn place(self) -> usize
+        ensures { result ≡ path_place self }
+    {
+        match self {
+            PathFault::NoModule => 0,
+            PathFault::TooManyNames => 64,
+            PathFault::TooManySupers => 255,
+            PathFault::NoCrate => 0,
+            PathFault::NoName(index) => index,
+        }
+    }
+}
+
+impl TreeFault {
+    fn number(self) -> u32
+        ensures { result ≡ tree_number self }
+    {
+        match self {
+            TreeFault::NoModule => 1,
+            TreeFault::Dangling => 6,
+            TreeFault::BadRow(_) => 8,
+        }
+    }
+
+    fn place(self) -> usize
+        ensures { result ≡ tree_place self }
+    {
+        match self {
+            TreeFault::NoModule => 0,
+            TreeFault::Dangling => 0,
+            TreeFault::BadRow(row) => row,
+        }
+    }
+}
+
+impl Namespace {
+    fn number(self) -> usize
+        ensures { result ≡ namespace_number self }
+    {
+        match self {
+            Namespace::Types => 0,
+            Namespace::Values => 1,
+            Namespace::Macros => 2,
+        }
+    }
+}
+
+impl IndexFault {
+    fn number(self) -> u32
+        ensures { result ≡ index_number self }
+    {
+        match self {
+            IndexFault::NoModule => 1,
+            IndexFault::NoName => 4,
+            IndexFault::NothingFilled => 5,
+            IndexFault::Dangling(_) => 6,
+            IndexFault::NoRows(_) => 7,
+            IndexFault::BadRow(_) => 8,
+        }
+    }
+
+    fn place(self) -> usize
+        ensures { result ≡ index_place self }
+    {
+        match self {
+            IndexFault::NoModule => 0,
+            IndexFault::NoName => 0,
+            IndexFault::NothingFilled => 0,
+            IndexFault::Dangling(namespace) => namespace.number(),
+            IndexFault::NoRows(left) => left,
+            IndexFault::BadRow(row) => row,
         }
     }
 }
 
 impl Fault {
-    fn layer(self) -> Layer
-        ensures { result ≡ layer_of self }
+    /// The refusal as numbers.
+    pub fn code(self) -> FaultCode
+        ensures { result ≡ code_of self }
     {
-        match self {
-            Fault::Text(_) => Layer::Text,
-            Fault::Index(_) => Layer::Index,
-            Fault::Tree(_) => Layer::Tree,
+        let (layer, number, place) = match self {
+            Fault::Text(fault) => (Layer::Text, fault.number(), fault.place()),
+            Fault::Path(fault) => (Layer::Path, fault.number(), fault.place()),
+            Fault::Tree(fault) => (Layer::Tree, fault.number(), fault.place()),
+            Fault::Index(fault) => (Layer::Index, fault.number(), fault.place()),
+        };
+        FaultCode {
+            layer,
+            number,
+            place,
         }
     }
+}
 
-    pub fn refusal(self) -> Refusal
-        ensures { result ≡ refusal_of self }
-    {
-        match self {
-            Fault::Text(refusal) => refusal,
-            Fault::Index(refusal) => refusal,
-            Fault::Tree(refusal) => refusal,
-        }
+impl From<TextFault> for Fault {
+    ghost from_gives = { λ e r. r ≡ Text e };
+
+    fn from(e: TextFault) -> Fault {
+        Fault::Text(e)
     }
+}
 
-    pub fn told(self) -> Told
-        ensures { result ≡ told self }
-    {
-        let refusal = self.refusal();
-        Told {
-            layer: self.layer(),
-            number: refusal.number(),
-            place: refusal.place(),
-        }
+impl From<PathFault> for Fault {
+    ghost from_gives = { λ e r. r ≡ Path e };
+
+    fn from(e: PathFault) -> Fault {
+        Fault::Path(e)
+    }
+}
+
+impl From<TreeFault> for Fault {
+    ghost from_gives = { λ e r. r ≡ Tree e };
+
+    fn from(e: TreeFault) -> Fault {
+        Fault::Tree(e)
+    }
+}
+
+impl From<IndexFault> for Fault {
+    ghost from_gives = { λ e r. r ≡ Index e };
+
+    fn from(e: IndexFault) -> Fault {
+        Fault::Index(e)
     }
 }
 
 /// Why a call that needs memory gave no answer: a refusal, or want of memory, which is none.
-#[derive(Clone, Copy)]
-pub enum Failure {
+#[derive(Clone, Copy, PartialEq, Eq, Debug, Error)]
+#[error_bound(R: fmt::Display)]
+pub enum Failure<R> {
+    #[error("out of memory")]
     Memory(AllocError),
-    Refused(Fault),
+    #[error(transparent)]
+    Refused(R),
 }
 
-impl From<AllocError> for Failure {
+impl<R> From<AllocError> for Failure<R> {
     ghost from_gives = { λ e r. r ≡ Memory e };
 
-    fn from(e: AllocError) -> Failure {
+    fn from(e: AllocError) -> Failure<R> {
         Failure::Memory(e)
     }
 }
 
-impl<T: Drop> From<AllocFailed<T>> for Failure {
+impl<T: Drop, R> From<AllocFailed<T>> for Failure<R> {
     ghost from_gives = { λ _ r. r ≡ Memory alloc_error };
 
-    fn from(e: AllocFailed<T>) -> Failure {
+    fn from(e: AllocFailed<T>) -> Failure<R> {
         Failure::Memory(AllocError::from(e))
     }
 }
 
-impl From<Fault> for Failure {
+impl From<TextFault> for Failure<TextFault> {
     ghost from_gives = { λ e r. r ≡ Refused e };
 
-    fn from(e: Fault) -> Failure {
+    fn from(e: TextFault) -> Failure<TextFault> {
         Failure::Refused(e)
     }
 }
 
-impl fmt::Display for Refusal {
-    fn fmt<W: fmt::Write>(&self, f: &mut fmt::Formatter<W>) -> fmt::Result {
-        f.write_str(match self {
-            Refusal::NoModule => "the module that asks, or that receives, does not exist",
-            Refusal::TooManyNames => "the path has more than 64 names",
-            Refusal::TooManySupers => "the path has more than 255 `super`",
-            Refusal::NoName(_) => "a name's number does not exist",
-            Refusal::NothingFilled => "the delivery fills no namespace",
-            Refusal::NoRows(_) =>
-                "fewer rows are free than the delivery has entries; the place is the number of free rows",
-            Refusal::Dangling(_) =>
-                "a module or a crate that the item's visibility names does not exist",
-            Refusal::BadRow(_) =>
-                "a row of the tables, or a line of the name list, breaks a rule or lies beyond a limit; the place is the first such row or line",
-            Refusal::BadText(_) =>
-                "the text is no path; the place is the first byte that cannot go on",
-            Refusal::UnknownName(_) =>
-                "a name is not in the name list; the place is its first byte",
-        })
+impl From<TreeFault> for Failure<TreeFault> {
+    ghost from_gives = { λ e r. r ≡ Refused e };
+
+    fn from(e: TreeFault) -> Failure<TreeFault> {
+        Failure::Refused(e)
+    }
+}
+
+impl From<TreeFault> for Failure<Fault> {
+    ghost from_gives = { λ e r. r ≡ Refused (Tree e) };
+
+    fn from(e: TreeFault) -> Failure<Fault> {
+        Failure::Refused(Fault::Tree(e))
+    }
+}
+
+impl From<IndexFault> for Failure<Fault> {
+    ghost from_gives = { λ e r. r ≡ Refused (Index e) };
+
+    fn from(e: IndexFault) -> Failure<Fault> {
+        Failure::Refused(Fault::Index(e))
     }
 }
 
 impl fmt::Display for Layer {
+    ghost output = { λ layer. Some (layer_text layer) };
+
     fn fmt<W: fmt::Write>(&self, f: &mut fmt::Formatter<W>) -> fmt::Result {
-        match self {
-            Layer::Text => f.write_str("text"),
-            Layer::Index => f.write_str("index"),
-            Layer::Tree => f.write_str("tree"),
-        }
+        f.write_str(match self {
+            Layer::Text => "text",
+            Layer::Path => "path",
+            Layer::Tree => "tree",
+            Layer::Index => "index",
+        })
+    }
+}
+
+/// The layer, the number and the place, with blanks between them.
+impl fmt::Display for FaultCode {
+    ghost output = { λ code. Some (code_text code) };
+
+    fn fmt<W: fmt::Write>(&self, f: &mut fmt::Formatter<W>) -> fmt::Result {
+        let layer = self.layer;
+        let number = self.number;
+        let place = self.place;
+        write!(f, "{layer} {number} {place}")
     }
 }

@@ -4,7 +4,7 @@ ghost use Rattle.hir_def.specs.Imports.{narrowed};
 
 use crate::{ExternCrateId, GlobId, ImportId};
 
-#[derive(Clone, Copy, PartialEq, Eq)]
+#[derive(Clone, Copy, PartialEq, Eq, Hash, Debug)]
 pub enum ImportOrExternCrate {
     Glob(GlobId),
     Import(ImportId),
@@ -12,7 +12,7 @@ pub enum ImportOrExternCrate {
 }
 
 /// The imports of values: an extern crate brings none.
-#[derive(Clone, Copy, PartialEq, Eq)]
+#[derive(Clone, Copy, PartialEq, Eq, Hash, Debug)]
 pub enum ImportOrGlob {
     Glob(GlobId),
     Import(ImportId),

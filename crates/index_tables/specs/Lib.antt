@@ -1,4 +1,5 @@
-pub mod Hashes
+pub mod IndexRows
 pub mod Loading
+pub mod LoadedTables
 pub mod Numbers
 pub mod RowTests

@@ -1,7 +1,7 @@
-// The tables of an index: what they are found by, and how they come in.
+// The tables of an index beside its places: what their rows are found by, and how they come in.
 #![tactic(auto)]
 
 pub mod keys;
-pub mod load;
-pub mod rows;
-pub mod take_in;
+mod load_table;
+pub mod loaded_tables;
+mod numbers;

@@ -1,1 +1,2 @@
 pub mod Shadowed
+pub mod Taken

@@ -1,5 +1,5 @@
 -- The four steps shadow as the Reference says.
-use Rattle.std.proofs.Common.{◌≡◌, zero, suc, Bool, true, false, cond, not, ◌&&◌, ◌⊎◌, ◌↔◌, List, [], ◌∷◌, sym, refl, subst, inl, inr, arith, ◌∙◌}
+use Rattle.std.proofs.Common.{◌≡◌, zero, suc, Bool, true, false, if◌then◌else◌, not, ◌&&◌, ◌⊎◌, ◌↔◌, List, [], ◌∷◌, sym, refl, subst, inl, inr, arith, ◌∙◌}
 use Rattle.std.specs.List.{Any, Contains}
 use Rattle.std.proofs.lemmas.Bool.{false≢true}
 use Rattle.item_scope.specs.declared.place.Place.{Place}
@@ -26,9 +26,9 @@ contains-more n ns e (k, l, h) = (suc k, omega arith, h)
 module _ {T : Type 0} where
   -- the place after a step, by what the tests answer
   abbrev placed : Place T → T → Bool → Bool → Place T
-  placed Empty n glob r = cond glob (ByGlob n) (ByName n)
-  placed (ByGlob o) n glob r = cond (not glob) (cond glob (ByGlob n) (ByName n)) (ByGlob o)
-  placed (ByName o) n glob r = cond (not glob && r) (cond glob (ByGlob n) (ByName n)) (ByName o)
+  placed Empty n glob r = if glob then ByGlob n else ByName n
+  placed (ByGlob o) n glob r = if not glob then (if glob then ByGlob n else ByName n) else ByGlob o
+  placed (ByName o) n glob r = if not glob && r then (if glob then ByGlob n else ByName n) else ByName o
 
   named-at : (p : Place T) (n : T) (glob r : Bool) → (is_by_name (placed p n glob r) ≡ true) ↔ ((is_by_name p ≡ true) ⊎ (glob ≡ false))
   named-at Empty n true r = (λ h. inl h, λ s. elim s [ inl e ↦ e | inr e ↦ sym e ])

@@ -1,5 +1,6 @@
 pub mod Deliveries
 pub mod Globs
+pub mod IndexData
 pub mod Places
 pub mod Shadowing
 pub mod Views

@@ -1,8 +1,8 @@
 -- Places, and the four steps by which an entry comes to one.
-use Rattle.std.specs.Prelude.{Bool, true, false, cond, not, ◌&&◌, List, Some, None, Option}
+use Rattle.std.specs.Prelude.{Bool, true, false, if◌then◌else◌, not, ◌&&◌, List, Some, None, Option}
 use Rattle.std.specs.List.{fold}
 use Rattle.entries.specs.declared.per_ns.Item.{Item}
-use Rattle.entries.specs.Entries.{both_equal}
+use Rattle.entries.specs.Entries.{reresolved_by}
 use Rattle.item_scope.specs.Globs.{by_glob}
 use Rattle.item_scope.specs.declared.place.Place.{Place}
 use Rattle.item_scope.specs.declared.place.Place.TheVariants.{Empty, ByGlob, ByName}
@@ -33,12 +33,12 @@ pub record Tests (T : Type 0) : Type 0 where
   pub glob : T → Bool
   pub reresolved : T → T → Bool
 
--- the same present import, for another def
-abbrev pub reresolved : {D M : Type 0} → (D → D → Bool) → (M → M → Bool) → Item D M → Item D M → Bool
-reresolved same_def same_import old new = both_equal same_import old.import new.import && not (same_def old.def new.def)
-
+-- by a test of defs, a test for globs and a test of imports
 abbrev pub tests : {D M : Type 0} → (D → D → Bool) → (M → Bool) → (M → M → Bool) → Tests (Item D M)
-tests same_def glob same_import = record { glob = λ e. by_glob glob e.import; reresolved = reresolved same_def same_import }
+tests same_def glob same_import = record {
+  glob = λ e. by_glob glob e.import;
+  reresolved = λ old new. reresolved_by same_def same_import old new.def new.import;
+}
 
 -- whether the entry holds the place when it has come
 abbrev pub takes : {T : Type 0} → Tests T → Place T → T → Bool
@@ -47,10 +47,10 @@ takes t (ByGlob old) new = not (t.glob new)
 takes t (ByName old) new = not (t.glob new) && t.reresolved old new
 
 abbrev pub held : {T : Type 0} → Tests T → T → Place T
-held t new = cond (t.glob new) (ByGlob new) (ByName new)
+held t new = if t.glob new then ByGlob new else ByName new
 
 abbrev pub stepped : {T : Type 0} → Tests T → Place T → T → Stepped T
-stepped t p new = record { place = cond (takes t p new) (held t new) p; changed = takes t p new }
+stepped t p new = record { place = if takes t p new then held t new else p; changed = takes t p new }
 
 -- the place after entries came one by one
 abbrev pub replayed : {T : Type 0} → Tests T → Place T → List T → Place T

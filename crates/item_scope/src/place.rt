@@ -2,9 +2,8 @@
 ghost use Rattle.std.specs.Prelude.{◌≡◌};
 ghost use Rattle.item_scope.specs.Places.{holder, is_empty, is_by_name};
 
-/// A place is a module, a name and a namespace. It is empty, held by a glob, or held by name: by an entry that anything
-/// but a glob brought.
-#[derive(Clone, Copy)]
+/// What holds a place. It is held by name where anything but a glob brought its entry.
+#[derive(Clone, Copy, PartialEq, Eq, Debug)]
 pub enum Place<T> {
     Empty,
     ByGlob(T),
@@ -22,12 +21,14 @@ impl<T: Copy> Place<T> {
         }
     }
 
+    /// Whether nothing holds the place.
     pub fn is_empty(self) -> bool
         ensures { result ≡ is_empty self }
     {
         matches!(self, Place::Empty)
     }
 
+    /// Whether an entry holds the place that anything but a glob brought.
     pub fn is_by_name(self) -> bool
         ensures { result ≡ is_by_name self }
     {

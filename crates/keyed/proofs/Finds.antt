@@ -1,10 +1,14 @@
 -- Look-ups and writes by the position of a key.
-use Rattle.std.proofs.Common.{◌≡◌, ℕ, zero, suc, ◌<◌, ◌≤◌, Bool, true, false, List, [], ◌∷◌, ◌++◌, length, get_or, set, Some, None, position, if◌then◌else◌, sym, refl, ap, ◌∙◌, arith, take, length-take-le, get_or-take}
+use Rattle.std.proofs.Common.{◌≡◌, ℕ, zero, suc, ◌<◌, ◌≤◌, Bool, true, false, List, [], ◌∷◌, ◌++◌, length, get_or, set, Some, None, position, if◌then◌else◌, sym, refl, ap, ◌∙◌, arith, take, is_some, slice_get, length-take-le, get_or-take}
 use Rattle.std.specs.Cmp.{IsEquivalence}
 use Rattle.std.proofs.lemmas.List.Quantifiers.{position-Some}
 use Rattle.keyed.specs.declared.row.Row.{Row}
-use Rattle.keyed.specs.Entries.{find, put}
+use Rattle.keyed.specs.Entries.{find, put, Overwrites}
 use lib.Seq.{take-set-lt}
+
+pub none_first : {X : Type 0} (xs : List X) → None ≡ slice_get xs 0 → xs ≡ []
+none_first [] is = refl
+none_first (x ∷ xs) is = cc
 
 module _ {K V : Type 0} (eq : K → K → Bool) where
   -- what a key's position tells of it
@@ -48,6 +52,14 @@ module _ {K V : Type 0} (eq : K → K → Bool) where
   find_put (e ∷ entries) key value q laws =
       grind (arith, find_put entries key value q laws, laws.symm q key, laws.symm e.key key, laws.symm e.key q, laws.congr e.key key q, laws.congr key q e.key, laws.congr q key e.key)
 
+  pub overwrites_put : (old new : List (Row K V)) (key : K) (value : V) → IsEquivalence eq → new ≡ put eq old key value → Overwrites eq old new key value
+  overwrites_put old new key value laws is q = rw is (find_put old key value q laws)
+
+  pub overwrites_append : (old new : List (Row K V)) (key : K) (value : V) → IsEquivalence eq → is_some (find eq old key) ≡ false → new ≡ old ++ record { key = key; value = value } ∷ [] → Overwrites eq old new key value
+  overwrites_append old new key value laws new_key is =
+      let none : find eq old key ≡ None = grind arith in
+      overwrites_put old new key value laws (is ∙ sym (put_nowhere old key value none))
+
   -- what the position of a key tells of the rows, and of an overwriting
   pub find_tells : (rows : List (Row K V)) (used : ℕ) (key : K) → used ≤ length rows
       → (find eq (take used rows) key ≡ find eq (take used rows) key)
@@ -72,3 +84,10 @@ module _ {K V : Type 0} (eq : K → K → Bool) where
           take-set-lt used rows index r (inside index d is)
           ∙ ap (λ (e : Row K V). set (take used rows) index (record { key = e.key; value = value })) (sym (get_or-take used rows index d (inside index d is)))
           ∙ sym ((stands_at (take used rows) key index d is).puts value)
+
+  -- a row of the key is written over
+  pub put_written : (rows rows' : List (Row K V)) (used index : ℕ) (key : K) (value : V) (r : Row K V) → used ≤ length rows → position (λ e. eq e.key key) (take used rows) ≡ Some index → r ≡ get_or rows index r → rows' ≡ set rows index (record { key = r.key; value = value })
+      → take used rows' ≡ put eq (take used rows) key value
+  put_written rows rows' used index key value r h is stands written =
+      ap (take used) (written ∙ ap (λ (e : Row K V). set rows index (record { key = e.key; value = value })) stands)
+      ∙ (find_tells rows used key h).3 index r value is

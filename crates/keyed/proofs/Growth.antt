@@ -1,14 +1,16 @@
 -- The chains after a row is put behind the others, or one is written over with its key and link kept.
-use Rattle.std.proofs.Common.{◌≡◌, ℕ, zero, suc, ◌+◌, ◌-◌, ◌%◌, ◌<◌, ◌≤◌, Bool, true, false, IsTrue, ◌≢◌, List, [], ◌∷◌, map, length, get_or, ◌++◌, if◌then◌else◌, set, None, Some, ◌==◌, sym, refl, ap, ◌∙◌, subst, inl, inr, add-one, mod-lt, arith, length-set, get_or-set_other, get_or-set_same, below_more, take}
-use Rattle.std.proofs.lemmas.List.{take_more_set, set-get_or}
+use Rattle.std.proofs.Common.{◌≡◌, ℕ, zero, suc, ◌+◌, ◌-◌, ◌<◌, ◌≤◌, Bool, true, false, IsTrue, ◌≢◌, List, [], ◌∷◌, map, length, get_or, ◌++◌, if◌then◌else◌, set, None, Some, ◌==◌, sym, refl, ap, ◌∙◌, subst, inl, inr, add-one, arith, length-set, get_or-set_other, get_or-set_same, below_more, take, drop, is_some}
+use Rattle.std.proofs.lemmas.Grind.{get_or_default_zero}
+use Rattle.std.proofs.lemmas.List.{take-set, drop-set, length-drop, get_or-map}
+use Rattle.std.proofs.Math.Seq.{drop-cons}
 use mathlib.Core.Path.{fun_ext}
-use lib.ListN.{length-map}
 use lib.Seq.{map-set, map-set_same}
 use Rattle.std.proofs.lemmas.Bool.{cond-true, cond-false, cases_eq, eq-eqb, ne_eqb}
 use Rattle.keyed.specs.declared.row.Row.{Row}
-use Rattle.keyed.specs.Entries.{find, put}
-use Rattle.keyed.specs.Chains.{latest, in_bucket, IsHeaded, IsLinked, ChainFacts, IsChained}
+use Rattle.keyed.specs.Entries.{find, put, next_is_present}
+use Rattle.keyed.specs.Chains.{latest, bucket_of, in_bucket, IsHeaded, IsLinked, ChainFacts, IsChained, IsSound}
 use Rattle.keyed.specs.Rows.{part_at, hash_at, has_key}
+use Rattle.keyed.proofs.Buckets.{bucket_of_lt}
 use Rattle.keyed.proofs.Latest.{latest-same, latest-false}
 use Rattle.keyed.proofs.Finds.{find_put, put_nowhere}
 
@@ -18,17 +20,17 @@ Agree f g n = (j : ℕ) → j < n → f j ≡ g j
 
 bucket_same : (hashes hashes' : ℕ → ℕ) (buckets b n : ℕ) → Agree hashes hashes' n → latest (in_bucket hashes buckets b) n ≡ latest (in_bucket hashes' buckets b) n
 bucket_same hashes hashes' buckets b n a =
-    latest-same (in_bucket hashes buckets b) (in_bucket hashes' buckets b) n (λ j l. ap (λ h. (h % buckets) == b) (a j l))
+    latest-same (in_bucket hashes buckets b) (in_bucket hashes' buckets b) n (λ j l. ap (λ h. bucket_of h buckets == b) (a j l))
 
 headed_same : (hashes hashes' : ℕ → ℕ) (heads : List ℕ) (n : ℕ) → Agree hashes hashes' n → IsHeaded hashes heads n → IsHeaded hashes' heads n
 headed_same hashes hashes' heads n a h b l = h b l ∙ bucket_same hashes hashes' (length heads) b n a
 
 linked_same : (hashes hashes' links links' : ℕ → ℕ) (buckets n : ℕ) → Agree hashes hashes' n → Agree links links' n → IsLinked hashes links buckets n → IsLinked hashes' links' buckets n
 linked_same hashes hashes' links links' buckets n a b h j l =
-    sym (b j l) ∙ h j l ∙ ap (λ x. latest (in_bucket hashes buckets (x % buckets)) j) (a j l)
-    ∙ bucket_same hashes hashes' buckets (hashes' j % buckets) j (λ i m. a i (omega arith))
+    sym (b j l) ∙ h j l ∙ ap (λ x. latest (in_bucket hashes buckets (bucket_of x buckets)) j) (a j l)
+    ∙ bucket_same hashes hashes' buckets (bucket_of (hashes' j) buckets) j (λ i m. a i (omega arith))
 
-headed_more : (hashes : ℕ → ℕ) (n b : ℕ) (heads : List ℕ) → b < length heads → b ≡ hashes n % length heads → IsHeaded hashes heads n → IsHeaded hashes (set heads b (n + 1)) (n + 1)
+headed_more : (hashes : ℕ → ℕ) (n b : ℕ) (heads : List ℕ) → b < length heads → b ≡ bucket_of (hashes n) (length heads) → IsHeaded hashes heads n → IsHeaded hashes (set heads b (n + 1)) (n + 1)
 headed_more hashes n b heads l is h =
     rw (length-set heads b (n + 1)) (λ c m.
     elim (cases_eq c b) [
@@ -49,11 +51,6 @@ module _ {X Y : Type 0} (f : X → Y) (y : Y) (xs : List X) where
   part_at-other j x i l =
       let d : i ≢ j = omega arith in
       sym (ap (λ ys. get_or ys i y) (map-set f xs j x) ∙ get_or-set_other (map f xs) j i (f x) y d)
-
-  part_at-set : (j : ℕ) (x : X) → j < length xs → part_at f y (set xs j x) j ≡ f x
-  part_at-set j x l =
-      let m : j < length (map f xs) = rw (length-map xs f) l in
-      ap (λ ys. get_or ys j y) (map-set f xs j x) ∙ get_or-set_same (map f xs) j (f x) y m
 
 module _ {K V : Type 0} (hash : K → ℕ) (eq : K → K → Bool) where
   -- rows with the same keys, and the same links, below the bound
@@ -79,12 +76,11 @@ module _ {K V : Type 0} (hash : K → ℕ) (eq : K → K → Bool) where
       let r : Row K V = record { key = (get_or rows j d).key; value = value } in
       chained_same rows (set rows j r) links links heads n (λ Y f y i _. part_at-kept (λ x. f x.key) y rows j r d refl i) (λ i _. refl) c
 
-  chained_below : (rows : List (Row K V)) (links heads : List ℕ) (n next : ℕ) (r : Row K V) → ChainFacts hash eq rows links heads n → ChainFacts hash eq (set rows n r) (set links n next) heads n
-  chained_below rows links heads n next r c =
-      chained_same rows (set rows n r) links (set links n next) heads n
-      (λ Y f y i l. part_at-other (λ x. f x.key) y rows n r i l)
-      (λ i l. let d : i ≢ n = omega arith in sym (get_or-set_other links n i next 0 d))
-      c
+  -- a row that is not used
+  pub chained_past : (rows : List (Row K V)) (links heads : List ℕ) (n : ℕ) (r : Row K V) → IsChained hash eq rows links heads n → IsChained hash eq (set rows n r) links heads n
+  unfolding IsChained
+  chained_past rows links heads n r c =
+      chained_same rows (set rows n r) links links heads n (λ Y f y i l. part_at-other (λ x. f x.key) y rows n r i l) (λ i _. refl) c
 
   -- no used row has a key that is not found
   nowhere : (rows : List (Row K V)) (n : ℕ) (key : K) → n ≤ length rows → find eq (take n rows) key ≡ None → (j : ℕ) → j < n → has_key eq rows key j ≡ false
@@ -94,41 +90,51 @@ module _ {K V : Type 0} (hash : K → ℕ) (eq : K → K → Bool) where
   nowhere (r ∷ rows) (suc n) key h e zero l = grind arith
   nowhere (r ∷ rows) (suc n) key h e (suc j) l = let m : n ≤ length rows = omega arith in let k : j < n = omega arith in grind (arith, nowhere rows n key m)
 
-  -- a row behind the others, as the head of its key's bucket
-  pub chained_more : (rows : List (Row K V)) (links heads : List ℕ) (n b next : ℕ) (key : K) (value : V) → n < length rows → length rows ≤ length links → 0 < length heads → b ≡ hash key % length heads → next ≡ get_or heads b 0
-      → find eq (take n rows) key ≡ None → IsChained hash eq rows links heads n
-      → IsChained hash eq (set rows n (record { key = key; value = value })) (set links n next) (set heads b (n + 1)) (n + 1)
+  next_is_new : (rows : List (Row K V)) (n : ℕ) (d : Row K V) → n < length rows → next_is_present eq (take n rows) (drop n rows) ≡ false → find eq (take n rows) (get_or rows n d).key ≡ None
+  next_is_new rows n d l new =
+      let k : is_some (find eq (take n rows) (get_or rows n d).key) ≡ false = rw (drop-cons rows n d l) at new in
+      grind arith
+
+  -- a row as it stands, as the head of its key's bucket
+  pub chained_next : (rows : List (Row K V)) (links heads : List ℕ) (n b next : ℕ) (d : Row K V) → n < length rows → length rows ≤ length links → 0 < length heads → b ≡ bucket_of (hash (get_or rows n d).key) (length heads) → next ≡ get_or heads b 0
+      → next_is_present eq (take n rows) (drop n rows) ≡ false → IsChained hash eq rows links heads n
+      → IsChained hash eq rows (set links n next) (set heads b (n + 1)) (n + 1)
   unfolding IsChained
-  chained_more rows links heads n b next key value l fit some is link none c =
-      let r : Row K V = record { key = key; value = value } in
-      let rows' = set rows n r in
+  chained_next rows links heads n b next d l fit some is link new c =
+      let key = (get_or rows n d).key in
+      let hashes = hash_at hash rows in
       let links' = set links n next in
-      let hashes = hash_at hash rows' in
-      let lt : b < length heads = rw is (mod-lt _ some) in
+      let lt : b < length heads = rw is (bucket_of_lt _ _ some) in
       let inside : n < length links = omega arith in
-      let here : b ≡ hashes n % length heads = is ∙ ap (λ x. x % length heads) (sym (part_at-set (λ (x : Row K V). hash x.key) 0 rows n r l)) in
-      let d = chained_below rows links heads n next r c in
-      let linked : get_or links' n 0 ≡ latest (in_bucket hashes (length heads) (hashes n % length heads)) n
-      = get_or-set_same links n next 0 inside ∙ link ∙ d.headed b lt ∙ ap (λ x. latest (in_bucket hashes (length heads) x) n) here in
-      let absent = nowhere rows n key (omega arith) none in
-      let alone : latest (λ i. part_at (λ row. has_key eq rows' row.key i) false rows' n) n ≡ 0
-      = latest-same (λ i. part_at (λ row. has_key eq rows' row.key i) false rows' n) (λ i. false) n
-      (λ i m. part_at-set (λ (x : Row K V). has_key eq rows' x.key i) false rows n r l ∙ sym (part_at-other (λ (x : Row K V). eq x.key key) false rows n r i m) ∙ absent i m) ∙ latest-false n in
+      let here : b ≡ bucket_of (hashes n) (length heads) = is ∙ ap (λ x. bucket_of x (length heads)) (sym (get_or-map (λ (r : Row K V). hash r.key) rows n d 0 l)) in
+      let k = chained_same rows rows links links' heads n (λ Y f y i _. refl) (λ i m. let o : i ≢ n = omega arith in sym (get_or-set_other links n i next 0 o)) c in
+      let linked : get_or links' n 0 ≡ latest (in_bucket hashes (length heads) (bucket_of (hashes n) (length heads))) n
+      = get_or-set_same links n next 0 inside ∙ link ∙ k.headed b lt ∙ ap (λ x. latest (in_bucket hashes (length heads) x) n) here in
+      let absent = nowhere rows n key (omega arith) (next_is_new rows n d l new) in
+      let alone : latest (λ i. part_at (λ row. has_key eq rows row.key i) false rows n) n ≡ 0
+      = latest-same (λ i. part_at (λ row. has_key eq rows row.key i) false rows n) (λ i. false) n
+      (λ i m. get_or-map (λ (r : Row K V). has_key eq rows r.key i) rows n d false l ∙ absent i m) ∙ latest-false n in
       record {
-        headed = headed_more hashes n b heads lt here d.headed;
-        linked = rw (length-set heads b (n + 1)) (below_more (λ j. get_or links' j 0 ≡ latest (in_bucket hashes (length heads) (hashes j % length heads)) j) n d.linked linked);
-        distinct = below_more (λ j. latest (λ i. part_at (λ row. has_key eq rows' row.key i) false rows' j) j ≡ 0) n d.distinct alone;
+        headed = headed_more hashes n b heads lt here k.headed;
+        linked = rw (length-set heads b (n + 1)) (below_more (λ j. get_or links' j 0 ≡ latest (in_bucket hashes (length heads) (bucket_of (hashes j) (length heads))) j) n k.linked linked);
+        distinct = below_more (λ j. latest (λ i. part_at (λ row. has_key eq rows row.key i) false rows j) j ≡ 0) n k.distinct alone;
         laws = c.laws;
         respects_eq = c.respects_eq;
       }
 
-  -- a row as it stands, as the head of its key's bucket
-  pub chained_next : (rows : List (Row K V)) (links heads : List ℕ) (n b next : ℕ) (d : Row K V) → n < length rows → length rows ≤ length links → 0 < length heads → b ≡ hash (get_or rows n d).key % length heads → next ≡ get_or heads b 0
-      → find eq (take n rows) (get_or rows n d).key ≡ None → IsChained hash eq rows links heads n
-      → IsChained hash eq rows (set links n next) (set heads b (n + 1)) (n + 1)
-  chained_next rows links heads n b next d l fit some is link none c =
-      subst (λ rs. IsChained hash eq rs (set links n next) (set heads b (n + 1)) (n + 1)) (set-get_or rows n d)
-      (chained_more rows links heads n b next (get_or rows n d).key (get_or rows n d).value l fit some is link none c)
+  pub sound_next : (rows : List (Row K V)) (links heads : List ℕ) (n b next : ℕ) (d : Row K V) → IsSound hash eq rows links heads n → 0 < length (drop n rows) → next_is_present eq (take n rows) (drop n rows) ≡ false
+      → b ≡ bucket_of (hash (get_or rows n d).key) (length heads) → next ≡ get_or heads b next → IsSound hash eq rows (set links n next) (set heads b (n + 1)) (n + 1)
+  sound_next rows links heads n b next d s some new is link =
+      let l : n < length rows = omega (arith, length-drop n rows) in
+      let some_bucket : 0 < length heads = s.some_bucket (omega arith) in
+      let inside : b < length heads = rw is (bucket_of_lt _ _ some_bucket) in
+      record {
+        within = omega arith;
+        few = s.few;
+        room_for_links = rw (length-set links n next) s.room_for_links;
+        some_bucket = λ k. rw (length-set heads b (n + 1)) (s.some_bucket k);
+        chained = chained_next rows links heads n b next d l s.room_for_links some_bucket is (link ∙ get_or_default_zero heads b next inside) new s.chained;
+      }
 
   -- what is found after an overwriting and after an addition
   pub chained_tells : (rows : List (Row K V)) (links heads : List ℕ) (n : ℕ) → IsChained hash eq rows links heads n
@@ -138,8 +144,9 @@ module _ {K V : Type 0} (hash : K → ℕ) (eq : K → K → Bool) where
   unfolding IsChained
   chained_tells rows links heads n c = (c, λ key value q. find_put eq (take n rows) key value q c.laws, λ key value. put_nowhere eq (take n rows) key value)
 
--- what is told of a row's write
-pub ruleset row_written = (length-set, take_more_set, chained_over, chained_more, chained_tells)
+-- what the rows are after the next one is written
+pub next_written : {X : Type 0} (rows rows' : List X) (n : ℕ) (r : X) → n < length rows → rows' ≡ set rows n r → (take n rows' ++ take 1 (drop n rows') ≡ take n rows ++ r ∷ []) × (drop 1 (drop n rows') ≡ drop 1 (drop n rows))
+next_written rows rows' n r l is = (rw (is, take-set rows n r, drop-set rows n r l) refl, rw (is, drop-set rows n r l, drop-cons rows n r l, add-one) refl)
 
--- what is told of a row that is taken in as it stands
-pub ruleset row_taken = (length-set, chained_next)
+-- what is told of a row's write
+pub ruleset row_written = (length-set, take-set, drop-set, chained_over, chained_past, chained_tells)

@@ -3,3 +3,5 @@ pub mod Finds
 pub mod Positions
 pub mod Walks
 pub mod Growth
+pub mod Fresh
+pub mod Buckets

@@ -1,10 +1,11 @@
 -- A walk along the chain of a key's bucket.
-use Rattle.std.proofs.Common.{◌≡◌, ℕ, zero, suc, ◌-◌, ◌%◌, ◌<◌, ◌≤◌, Bool, true, false, List, [], ◌∷◌, length, get_or, Some, None, position, sym, ap, ◌∙◌, mod-lt, arith, take}
+use Rattle.std.proofs.Common.{◌≡◌, ℕ, zero, suc, ◌-◌, ◌<◌, ◌≤◌, Bool, true, false, List, [], ◌∷◌, length, get_or, Some, None, position, sym, ap, ◌∙◌, arith, take}
 use Rattle.std.proofs.lemmas.Bool.{cond-true, cond-false, eqb-true, eq-eqb, false≢true}
 use Rattle.std.proofs.lemmas.List.{get_or-map}
 use Rattle.keyed.specs.declared.row.Row.{Row}
-use Rattle.keyed.specs.Chains.{latest, in_bucket, ChainFacts, IsChained}
+use Rattle.keyed.specs.Chains.{latest, bucket_of, in_bucket, ChainFacts, IsChained}
 use Rattle.keyed.specs.Rows.{hash_at, has_key}
+use Rattle.keyed.proofs.Buckets.{bucket_of_lt}
 use Rattle.keyed.proofs.Latest.{is_end_or, latest-latest, latest-le, latest-passes}
 use Rattle.keyed.proofs.Positions.{position_there, position_nowhere}
 
@@ -39,7 +40,7 @@ module _ (bucket key : ℕ → Bool) (inside : (j : ℕ) → key j ≡ true → 
 module _ {K V : Type 0} (hash : K → ℕ) (eq : K → K → Bool) (rows : List (Row K V)) (links heads : List ℕ) (used : ℕ) (key : K) where
   -- the bucket of the key
   abbrev bucket : ℕ → Bool
-  bucket = in_bucket (hash_at hash rows) (length heads) (hash key % length heads)
+  bucket = in_bucket (hash_at hash rows) (length heads) (bucket_of (hash key) (length heads))
 
   unfoldable pub IsWalkTo : ℕ → Type 0
   IsWalkTo at = IsWalk bucket (has_key eq rows key) used at
@@ -58,12 +59,12 @@ module _ {K V : Type 0} (hash : K → ℕ) (eq : K → K → Bool) (rows : List 
     same_hash (r ∷ all) (suc j) t = same_hash all j t
 
     same_bucket : (j : ℕ) → has_key eq rows key j ≡ true → bucket j ≡ true
-    same_bucket j t = eq-eqb _ _ (ap (λ h. h % length heads) (same_hash rows j t))
+    same_bucket j t = eq-eqb _ _ (ap (λ h. bucket_of h (length heads)) (same_hash rows j t))
 
-  pub walk_begins : (b : ℕ) → b ≡ hash key % length heads → 0 < length heads → IsChained hash eq rows links heads used → IsWalkTo (get_or heads b 0)
+  pub walk_begins : (b : ℕ) → b ≡ bucket_of (hash key) (length heads) → 0 < length heads → IsChained hash eq rows links heads used → IsWalkTo (get_or heads b 0)
   unfolding IsChained IsWalkTo
   walk_begins b is some c =
-      let lt : hash key % length heads < length heads = mod-lt _ some in
+      let lt = bucket_of_lt (hash key) (length heads) some in
       let w = walk_start bucket (has_key eq rows key) (same_bucket c) used _ (c.headed _ lt) in
       rw is w
 

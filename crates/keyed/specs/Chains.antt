@@ -1,5 +1,5 @@
 -- Rows in chains: each bucket has a head, and each row has a link to the row before it in its bucket.
-use Rattle.std.specs.Prelude.{◌≡◌, ℕ, zero, suc, ◌%◌, ◌^◌, ◌≤◌, ◌<◌, ◌==◌, Bool, false, IsTrue, List, length, slice_index, if◌then◌else◌}
+use Rattle.std.specs.Prelude.{◌≡◌, ℕ, zero, suc, ◌*◌, ◌/◌, ◌%◌, ◌^◌, ◌≤◌, ◌<◌, ◌==◌, Bool, false, IsTrue, List, length, slice_index, if◌then◌else◌}
 use Rattle.std.specs.Cmp.{IsEquivalence}
 use Rattle.keyed.specs.declared.row.Row.{Row}
 use Rattle.keyed.specs.Rows.{part_at, hash_at, has_key}
@@ -9,9 +9,13 @@ abbrev pub latest : (ℕ → Bool) → ℕ → ℕ
 latest passes zero = 0
 latest passes (suc n) = if passes n then suc n else latest passes n
 
+-- of so many buckets the one of a hash: it stands as far on among them as the hash among all hashes
+unfoldable pub bucket_of : ℕ → ℕ → ℕ
+bucket_of hash buckets = (hash % 2 ^ 64) * buckets / 2 ^ 64
+
 -- is the row at an index in the bucket
 abbrev pub in_bucket : (ℕ → ℕ) → ℕ → ℕ → ℕ → Bool
-in_bucket hashes buckets bucket index = (hashes index % buckets) == bucket
+in_bucket hashes buckets bucket index = bucket_of (hashes index) buckets == bucket
 
 -- each head tells the last row of its bucket
 abbrev pub IsHeaded : (ℕ → ℕ) → List ℕ → ℕ → Type 0
@@ -21,7 +25,7 @@ IsHeaded hashes heads used =
 -- each link tells the row before in its bucket
 abbrev pub IsLinked : (ℕ → ℕ) → (ℕ → ℕ) → ℕ → ℕ → Type 0
 IsLinked hashes links buckets used =
-    (index : ℕ) → index < used → links index ≡ latest (in_bucket hashes buckets (hashes index % buckets)) index
+    (index : ℕ) → index < used → links index ≡ latest (in_bucket hashes buckets (bucket_of (hashes index) buckets)) index
 
 -- no row before a row has its key
 abbrev pub IsDistinct : {K V : Type 0} → (K → K → Bool) → List (Row K V) → ℕ → Type 0

@@ -1,5 +1,6 @@
 -- What a table holds: rows with keys and their values, and the rows that are free.
-use Rattle.std.specs.Prelude.{◌≡◌, ℕ, ◌==◌, Bool, false, is_some, List, [], ◌∷◌, Option, None, Some, if◌then◌else◌, min}
+use Rattle.std.specs.Prelude.{◌≡◌, ℕ, ◌<◌, ◌^◌, Bool, false, is_some, List, [], ◌∷◌, Option, None, Some, if◌then◌else◌}
+use Rattle.std.proofs.Common.{lit<}
 use Rattle.keyed.specs.declared.row.Row.{Row}
 
 abbrev pub row : {K V : Type 0} → K → V → Row K V
@@ -9,6 +10,14 @@ row key value = record { key = key; value = value }
 pub record Contents (K V : Type 0) : Type 0 where
   pub entries : List (Row K V)
   pub free : List (Row K V)
+
+-- a table uses no more rows: a link tells a row in 32 bits, as one more than its number
+unfoldable pub most_rows : ℕ
+most_rows = 0xFFFF_FFFF
+
+pub most_rows_few : most_rows < 2 ^ 32
+unfolding most_rows
+most_rows_few = lit< tt
 
 -- the value of the first row with an equal key
 abbrev pub find : {K V : Type 0} → (K → K → Bool) → List (Row K V) → K → Option V
@@ -25,16 +34,7 @@ put eq (e ∷ entries) key value =
 abbrev pub Overwrites : {K V : Type 0} → (K → K → Bool) → List (Row K V) → List (Row K V) → K → V → Type 0
 Overwrites eq old new key value = (q : _) → find eq new q ≡ (if eq q key then Some value else find eq old q)
 
-abbrev pub first_of : {T : Type 0} → List T → Option T
-first_of [] = None
-first_of (x ∷ xs) = Some x
-
 -- whether the next free row has a key that is there
 abbrev pub next_is_present : {K V : Type 0} → (K → K → Bool) → List (Row K V) → List (Row K V) → Bool
 next_is_present eq entries [] = false
 next_is_present eq entries (r ∷ free) = is_some (find eq entries r.key)
-
--- how many of the rows that are lent are of use: none without a head, no more than there are links, and no more than a
--- link can tell
-abbrev pub usable_rows : ℕ → ℕ → ℕ → ℕ
-usable_rows rows links heads = if heads == 0 then 0 else min (min rows links) 0xFFFF_FFFF

@@ -1,8 +1,6 @@
 // Tables by key over rows that the caller lends.
 #![tactic(auto)]
 
-pub mod key;
-pub mod lookup;
+mod link;
 pub mod row;
 pub mod table;
-mod walk;

@@ -4,8 +4,8 @@ use Rattle.std.proofs.lemmas.Bool.{and_from, lt-ltb, eq-eqb, true≢false, both_
 use Rattle.hir_def.specs.declared.ModuleId.{ModuleId}
 use Rattle.hir_def.specs.declared.BlockId.{BlockId}
 use Rattle.hir_def.specs.declared.CrateId.{CrateId}
-use Rattle.hir_def.specs.declared.fault.Fault.{Fault}
-use Rattle.hir_def.specs.Faults.{told}
+use Rattle.hir_def.specs.declared.fault.TreeFault.{TreeFault}
+use Rattle.hir_def.specs.Faults.{tree_place}
 use Rattle.nameres.specs.Shapes.{Rules, TopOfCrate, TopOfBlock}
 use Rattle.nameres.specs.Rows.{Rows, module_at, block_at, crate_at, tree_of, row_number, same_block, block_exists, is_root, good_parent, good_modules, good_blocks, good_crates, good_rest, good_row, row_count, FirstBad, Loads}
 use Rattle.nameres.specs.Checked.{ModulesGood, BlocksGood, CratesGood, rules-of}
@@ -95,7 +95,7 @@ few-rows t a =
     let r = rules-of t (modules-of t a) (blocks-of t a) (crates-of t a) in
     omega (arith, r.few-modules, r.few-blocks, r.few-crates)
 
-pub accepted : (t : Rows) (r : Result (Unit {0}) Fault) → Loads t r → Decides (is_ok r) (Rules (tree_of t) row_number)
+pub accepted : (t : Rows) (r : Result (Unit {0}) TreeFault) → Loads t r → Decides (is_ok r) (Rules (tree_of t) row_number)
 accepted t (Ok u) a = (λ e. rules-of t (modules-of t a) (blocks-of t a) (crates-of t a), λ r. refl)
 accepted t (Err f) b =
-    (λ e. absurd (true≢false (sym e)), λ r. absurd (both_ways (good_row t (told f).place) b.1.1 (all-good t r (told f).place b.1.0)))
+    (λ e. absurd (true≢false (sym e)), λ r. absurd (both_ways (good_row t (tree_place f)) b.1.1 (all-good t r (tree_place f) b.1.0)))

@@ -1,17 +1,16 @@
 -- The tables of a module tree: what their rows tell, and which rows are good.
-use Rattle.std.specs.Prelude.{◌≡◌, ℕ, ◌+◌, ◌-◌, ◌<◌, Bool, true, false, cond, not, ◌&&◌, List, [], length, is_some, Some, None, Ok, Err, Option, Result, ◌==◌, nat_lt, slice_index_or}
+use Rattle.std.specs.Prelude.{◌≡◌, ℕ, ◌+◌, ◌-◌, ◌<◌, Bool, true, false, if◌then◌else◌, not, ◌&&◌, List, [], length, is_some, Some, None, Ok, Err, Option, Result, ◌==◌, nat_lt, slice_index_or}
 use Rattle.hir_def.specs.declared.ModuleId.{ModuleId}
 use Rattle.hir_def.specs.declared.BlockId.{BlockId}
 use Rattle.hir_def.specs.declared.CrateId.{CrateId}
-use Rattle.hir_def.specs.declared.Edition.TheVariants.{Edition2015}
-use Rattle.hir_def.specs.declared.fault.Fault.{Fault}
-use Rattle.hir_def.specs.declared.fault.Fault.TheVariants.{Tree}
-use Rattle.hir_def.specs.declared.fault.Refusal.TheVariants.{BadRow}
+use Rattle.hir_def.specs.declared.edition.Edition.TheVariants.{Edition2015}
+use Rattle.hir_def.specs.declared.fault.TreeFault.{TreeFault}
+use Rattle.hir_def.specs.declared.fault.TreeFault.TheVariants.{BadRow}
 use Rattle.nameres.specs.declared.tree_rows.ModuleRow.{ModuleRow}
 use Rattle.nameres.specs.declared.tree_rows.BlockRow.{BlockRow}
 use Rattle.nameres.specs.declared.tree_rows.CrateRow.{CrateRow}
 use Rattle.nameres.specs.declared.tree_rows.Tables.{Tables}
-use Rattle.hir_def.specs.Faults.{told}
+use Rattle.hir_def.specs.Faults.{tree_place}
 use Rattle.nameres.specs.Shapes.{Shape}
 
 pub record Rows : Type 0 where
@@ -109,18 +108,22 @@ good_crate t n row =
     && (not (is_some (module_at t row.root).block)
     && not (is_some (module_at t row.root).parent))))
 
+-- of each row of a table, whether it is good; past the end, whether a blank one is
+abbrev pub tests : {R : Type 0} → (ℕ → R → Bool) → R → List R → ℕ → Bool
+tests good blank rows k = good k (slice_index_or rows k blank)
+
 abbrev pub good_modules : Rows → ℕ → Bool
-good_modules t k = good_module t k (slice_index_or t.modules k blank_module)
+good_modules t = tests (good_module t) blank_module t.modules
 
 abbrev pub good_blocks : Rows → ℕ → Bool
-good_blocks t k = good_block t k (slice_index_or t.blocks k blank_block)
+good_blocks t = tests (good_block t) blank_block t.blocks
 
 abbrev pub good_crates : Rows → ℕ → Bool
-good_crates t k = good_crate t k (slice_index_or t.crates k blank_crate)
+good_crates t = tests (good_crate t) blank_crate t.crates
 
 -- the n tests of f, then those of g
 abbrev pub in_turn : (ℕ → Bool) → ℕ → (ℕ → Bool) → ℕ → Bool
-in_turn f n g k = cond (nat_lt k n) (f k) (g (k - n))
+in_turn f n g k = if nat_lt k n then f k else g (k - n)
 
 abbrev pub good_rest : Rows → ℕ → Bool
 good_rest t = in_turn (good_blocks t) (length t.blocks) (good_crates t)
@@ -138,6 +141,6 @@ FirstBad good n None = (k : ℕ) → k < n → good k ≡ true
 FirstBad good n (Some i) = (i < n) × (good i ≡ false) × ((k : ℕ) → k < i → good k ≡ true)
 
 -- a load is accepted where no row is bad, and else refused at the first bad row
-abbrev pub Loads : Rows → Result (Unit {0}) Fault → Type 0
+abbrev pub Loads : Rows → Result (Unit {0}) TreeFault → Type 0
 Loads t (Ok u) = FirstBad (good_row t) (row_count t) None
-Loads t (Err f) = (f ≡ Tree (BadRow (told f).place)) × FirstBad (good_row t) (row_count t) (Some (told f).place)
+Loads t (Err f) = (f ≡ BadRow (tree_place f)) × FirstBad (good_row t) (row_count t) (Some (tree_place f))

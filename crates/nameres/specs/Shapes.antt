@@ -3,8 +3,8 @@ use Rattle.std.specs.Prelude.{◌≡◌, ℕ, ◌<◌, ◌≤◌, ◌↔◌, Som
 use Rattle.hir_def.specs.declared.ModuleId.{ModuleId}
 use Rattle.hir_def.specs.declared.BlockId.{BlockId}
 use Rattle.hir_def.specs.declared.CrateId.{CrateId}
-use Rattle.hir_def.specs.declared.Edition.{Edition}
-use Rattle.hir_def.specs.declared.Edition.TheVariants.{Edition2015}
+use Rattle.hir_def.specs.declared.edition.Edition.{Edition}
+use Rattle.hir_def.specs.declared.edition.Edition.TheVariants.{Edition2015}
 
 -- numbers from 0 up to the counts exist; past them every function has one fixed answer
 pub record Shape : Type 0 where

@@ -1,4 +1,8 @@
 // The module tree: what it tells of modules, blocks and crates.
+//
+// A block expression that declares items has a module tree of its own, whose root has no parent; the module that it stands in
+// is its outside module. A module's map is its block, or its crate if it has no block: what rust-analyzer keeps in one
+// `DefMap`. There `DefMap`, `BlockInfo` and `CrateRootModuleId` of nameres.rs have what `Tree` tells here.
 #![tactic(auto)]
 
 ghost use Rattle.std.specs.Prelude.{◌≡◌, ℕ};
@@ -8,7 +12,8 @@ ghost use Rattle.nameres.specs.Shapes.{Shape, Rules, block_exit, around};
 pub mod tree_rows;
 pub mod tree_table;
 
-use hir_def::{BlockId, CrateId, Edition, ModuleId};
+use hir_def::edition::Edition;
+use hir_def::{BlockId, CrateId, ModuleId};
 
 /// A module tree. Each lookup is total: what does not exist is told as crate 0, no block, no parent, module 0 or
 /// the first edition.
@@ -17,6 +22,7 @@ pub trait Tree {
 
     ghost rank: { Self → ModuleId → ℕ };
 
+    /// How many modules there are; their numbers are those below it.
     fn modules(&self) -> u32
         ensures { result ≡ (shape self.now).modules };
 
@@ -29,12 +35,15 @@ pub trait Tree {
     fn krate(&self, m: ModuleId) -> CrateId
         ensures { result ≡ (shape self.now).crate_of m };
 
+    /// The block that `m` is in.
     fn block(&self, m: ModuleId) -> Option<BlockId>
         ensures { result ≡ (shape self.now).block_of m };
 
+    /// The module that `m` is declared in, in the same block and crate.
     fn parent(&self, m: ModuleId) -> Option<ModuleId>
         ensures { result ≡ (shape self.now).parent_of m };
 
+    /// The one module of the block that has no parent.
     fn block_root(&self, b: BlockId) -> ModuleId
         ensures { result ≡ (shape self.now).block_root b };
 
@@ -42,6 +51,7 @@ pub trait Tree {
     fn outside(&self, b: BlockId) -> ModuleId
         ensures { result ≡ (shape self.now).outside_of b };
 
+    /// The one module of the crate that is in no block and has no parent.
     fn crate_root(&self, c: CrateId) -> ModuleId
         ensures { result ≡ (shape self.now).crate_root c };
 
@@ -59,10 +69,7 @@ pub fn block_exit<T: Tree>(tree: &T, m: ModuleId) -> Option<ModuleId>
     if tree.parent(m).is_some() {
         return None;
     }
-    match tree.block(m) {
-        Some(b) => Some(tree.outside(b)),
-        None => None,
-    }
+    tree.block(m).map(|b| tree.outside(b))
 }
 
 /// The module around `m`: its parent, or for a block's root the module that the block stands in.

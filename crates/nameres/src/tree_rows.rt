@@ -1,37 +1,41 @@
 // The tables of a module tree, and the first of their rows that breaks a rule.
-ghost use Rattle.std.specs.Prelude.{◌≡◌, ℕ, Bool, length, Option, slice_index_or};
-ghost use Rattle.nameres.specs.Rows.{Rows, rows_of, module_at, block_at, crate_at, block_exists, is_root, good_parent, good_module, good_block, good_crate, good_row, row_count, FirstBad};
+ghost use Rattle.std.specs.Prelude.{◌≡◌, ℕ, Bool, length, slice_index_or};
+ghost use Rattle.nameres.specs.Rows.{Rows, rows_of, module_at, block_at, crate_at, block_exists, is_root, good_parent, good_module, good_block, good_crate, tests, good_row, row_count, FirstBad};
 
-use hir_def::{BlockId, CrateId, Edition, ModuleId};
+use hir_def::edition::Edition;
+use hir_def::{BlockId, CrateId, ModuleId};
 
+/// No tree has more modules.
 pub const MODULES: usize = 4096;
 
+/// No tree has more blocks.
 pub const BLOCKS: usize = 1024;
 
+/// No tree has more crates.
 pub const CRATES: usize = 64;
 
-#[derive(Clone, Copy)]
+#[derive(Clone, Copy, Debug)]
 pub struct ModuleRow {
     pub krate: CrateId,
     pub block: Option<BlockId>,
     pub parent: Option<ModuleId>,
 }
 
-#[derive(Clone, Copy)]
+#[derive(Clone, Copy, Debug)]
 pub struct BlockRow {
     pub root: ModuleId,
     /// The module that the block stands in.
     pub outside: ModuleId,
 }
 
-#[derive(Clone, Copy)]
+#[derive(Clone, Copy, Debug)]
 pub struct CrateRow {
     pub root: ModuleId,
     pub edition: Edition,
 }
 
 /// Row `i` of each table tells of number `i`.
-#[derive(Clone, Copy)]
+#[derive(Clone, Copy, Debug)]
 pub struct Tables<'a> {
     pub modules: &'a [ModuleRow],
     pub blocks: &'a [BlockRow],
@@ -165,7 +169,7 @@ impl Row for CrateRow {
 }
 
 fn first_bad<R: Row>(tables: &Tables, rows: &[R]) -> Option<usize>
-    ensures { (d : R) → FirstBad (λ k. R.Row.good (rows_of tables.now) k (slice_index_or rows.now k d)) (length rows.now) result }
+    ensures { (d : R) → FirstBad (tests (R.Row.good (rows_of tables.now)) d rows.now) (length rows.now) result }
 {
     for (i, row) in rows.iter().enumerate() {
         if !row.is_good(tables, i) {

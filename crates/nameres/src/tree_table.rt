@@ -6,11 +6,12 @@ ghost use Rattle.nameres.specs.Checked.{ModulesGood, BlocksGood, CratesGood, rul
 
 use crate::Tree;
 use crate::tree_rows::{Tables, first_bad_row};
-use hir_def::fault::{Fault, Refusal};
-use hir_def::{BlockId, CrateId, Edition, ModuleId};
+use hir_def::edition::Edition;
+use hir_def::fault::TreeFault;
+use hir_def::{BlockId, CrateId, ModuleId};
 
 /// A tree over tables that keep the rules.
-#[derive(Drop)]
+#[derive(Debug, Drop)]
 pub struct TreeTable<'a> {
     tables: Tables<'a>,
     ghost modules_good: { ModulesGood (rows_of tables) },
@@ -20,9 +21,11 @@ pub struct TreeTable<'a> {
 }
 
 impl<'a> TreeTable<'a> {
+    ghost use Rattle.nameres.specs.Tabled.{rows_in};
+
     /// A tree without crates.
     pub fn new() -> TreeTable<'a>
-        ensures { rows_of result.tables ≡ no_rows }
+        ensures { rows_in result ≡ no_rows }
     {
         TreeTable {
             tables: Tables {
@@ -35,30 +38,23 @@ impl<'a> TreeTable<'a> {
 
     fn over(tables: Tables<'a>) -> TreeTable<'a>
         requires { FirstBad (good_row (rows_of tables)) (row_count (rows_of tables)) None }
-        ensures { rows_of result.tables ≡ rows_of tables.entry }
+        ensures { rows_in result ≡ rows_of tables.entry }
     {
         TreeTable { tables }
     }
 
-    fn take_in(&mut self, tables: Tables<'a>) -> Result<(), Fault>
+    /// Takes the tables in, or says which row is the first that breaks a rule and keeps what it had. Rows are counted
+    /// through the modules, then the blocks, then the crates.
+    pub fn load(&mut self, tables: Tables<'a>) -> Result<(), TreeFault>
         ensures answers { Loads (rows_of tables.entry) result }
-        ensures after { rows_of self.new.tables ≡ (if is_ok result then rows_of tables.entry else rows_of self.old.tables) }
+        ensures accepted { Decides (is_ok result) (Rules (tree_of (rows_of tables.entry)) row_number) }
+        ensures after { rows_in self.new ≡ (if is_ok result then rows_of tables.entry else rows_in self.old) }
     {
         if let Some(row) = first_bad_row(&tables) {
-            return Err(Fault::Tree(Refusal::BadRow(row)));
+            return Err(TreeFault::BadRow(row));
         }
         *self = TreeTable::over(tables);
         Ok(())
-    }
-
-    /// Takes the tables in, or says which row is the first that breaks a rule and keeps what it had. Rows are counted
-    /// through the modules, then the blocks, then the crates.
-    pub fn load(&mut self, tables: Tables<'a>) -> Result<(), Fault>
-        ensures answers { Loads (rows_of tables.entry) result }
-        ensures accepted { Decides (is_ok result) (Rules (tree_of (rows_of tables.entry)) row_number) }
-        ensures after { rows_of self.new.tables ≡ (if is_ok result then rows_of tables.entry else rows_of self.old.tables) }
-    {
-        self.take_in(tables)
     }
 }
 

@@ -1,8 +1,6 @@
 -- The scan of a whole text: it accepts exactly the paths, and refuses any other text at the first place at which it halts.
 use Rattle.std.proofs.Common.{◌≡◌, ℕ, zero, suc, ◌+◌, ◌<◌, true, false, ◌⊎◌, List, [], ◌∷◌, ◌++◌, length, take, Some, None, Option, Result, sym, refl, ap, subst, inl, inr, arith, MatchOption, MatchResult}
 use Rattle.std.proofs.lemmas.Bool.{ne_eqb, cases_eq}
-use Rattle.hir_def.specs.declared.fault.Fault.{Fault}
-use Rattle.hir_def.specs.Faults.{told}
 use Rattle.path_text.specs.declared.scan.Before.TheVariants.{Nothing, Names}
 use Rattle.path_text.specs.Bytes.{letter}
 use Rattle.path_text.specs.Scan.{want, stop, stop_of}
@@ -147,10 +145,3 @@ verdict (b ∷ bs) = by-colon (cases_eq b 58) bs
           | inl f ↦ rw (e, f) (led-verdict bs)
           | inr n ↦ rw (e, ne_eqb d 58 n) (half-refused (d ∷ bs) n)
         ]
-
-pub exact : (bs : List ℕ) (r : Result (Unit {0}) Fault) → r ≡ checked (stop_of bs) → record { value : r ≡ checked (stop_of bs); exact : MatchResult r (λ _. IsPath bs) (λ f. RefusedAt IsPath bs (told f).place) }
-exact bs r e = record { value = e; exact = subst (λ (q : Result (Unit {0}) Fault). MatchResult q (λ _. IsPath bs) (λ f. RefusedAt IsPath bs (told f).place)) (sym e) (by-stop (stop_of bs) (verdict bs)) }
-  where
-    by-stop : (o : Option ℕ) → Verdict bs o → MatchResult (checked o) (λ _. IsPath bs) (λ f. RefusedAt IsPath bs (told f).place)
-    by-stop None v = v
-    by-stop (Some place) v = v

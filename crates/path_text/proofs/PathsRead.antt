@@ -1,11 +1,10 @@
 -- The words of a path, read part by part.
 use Rattle.std.proofs.Common.{◌≡◌, ℕ, ◌-◌, Bool, true, List, [], ◌∷◌, map, length, take, drop, Ok, Err, Result, sym, refl, ap, ◌∙◌}
 use Rattle.std.proofs.lemmas.List.{take_rest, drop-map}
-use Rattle.hir_def.specs.declared.fault.Fault.{Fault}
-use Rattle.hir_def.specs.declared.fault.Fault.TheVariants.{Text}
-use Rattle.hir_def.specs.declared.fault.Refusal.TheVariants.{UnknownName}
+use Rattle.hir_def.specs.declared.fault.TextFault.{TextFault}
+use Rattle.hir_def.specs.declared.fault.TextFault.TheVariants.{UnknownName}
 use Rattle.hir_def.specs.declared.Name.{Name}
-use Rattle.hir_def.specs.Faults.{IfRefused, told}
+use Rattle.hir_def.specs.Faults.{IfRefused, text_place}
 use Rattle.path_text.specs.declared.mod_path.PathKind.{PathKind}
 use Rattle.hir_def.specs.declared.fault.Failure.{Failure}
 use Rattle.hir_def.specs.declared.fault.Failure.TheVariants.{Memory, Refused}
@@ -33,19 +32,19 @@ module _ (ls : List (List ℕ)) (led : Bool) (xs : List Word) (start : Start) (e
   abbrev names : List Word
   names = take (length xs - start.len) (drop start.len xs)
 
-  pub too_many : (f : Fault) → Err f ≡ counts_of (length names) start.level → read_words ls led (map span_of xs) ≡ Err f
+  pub too_many : (f : TextFault) → Err f ≡ counts_of (length names) start.level → read_words ls led (map span_of xs) ≡ Err f
   too_many f c =
-      by_parts ls led xs start e ∙ ap (λ (r : Result (Unit {0}) Fault). allowed r (named (kind_of led start) (numbers_of ls (map span_of names)))) (sym c)
+      by_parts ls led xs start e ∙ ap (λ (r : Result (Unit {0}) TextFault). allowed r (named (kind_of led start) (numbers_of ls (map span_of names)))) (sym c)
 
   few-enough : (u : Unit {0}) → Ok u ≡ counts_of (length names) start.level → read_words ls led (map span_of xs) ≡ named (kind_of led start) (numbers_of ls (map span_of names))
   few-enough u c =
-      by_parts ls led xs start e ∙ ap (λ (r : Result (Unit {0}) Fault). allowed r (named (kind_of led start) (numbers_of ls (map span_of names)))) (sym c)
+      by_parts ls led xs start e ∙ ap (λ (r : Result (Unit {0}) TextFault). allowed r (named (kind_of led start) (numbers_of ls (map span_of names)))) (sym c)
 
   pub all_named : (u : Unit {0}) → Ok u ≡ counts_of (length names) start.level → (k : PathKind) (ns : List Name) → k ≡ kind_of led start → numbers_of ls (map span_of names) ≡ Ok ns → read_words ls led (map span_of xs) ≡ Ok (k, ns)
   all_named u c k ns a b = few-enough u c ∙ ap (named (kind_of led start)) b ∙ ap (λ (q : PathKind). Ok (q, ns)) (sym a)
 
   -- what an error of the names means for the words
-  pub one-unnamed : (u : Unit {0}) → Ok u ≡ counts_of (length names) start.level → (r : Failure) → IfRefused (λ f. (numbers_of ls (map span_of names) ≡ Err (told f).place) × (f ≡ Text (UnknownName (told f).place))) r → IfRefused (λ f. read_words ls led (map span_of xs) ≡ Err f) r
+  pub one-unnamed : (u : Unit {0}) → Ok u ≡ counts_of (length names) start.level → (r : Failure TextFault) → IfRefused (λ f. (numbers_of ls (map span_of names) ≡ Err (text_place f)) × (f ≡ UnknownName (text_place f))) r → IfRefused (λ f. read_words ls led (map span_of xs) ≡ Err f) r
   one-unnamed u c (Memory e) n = tt
   one-unnamed u c (Refused f) n = few-enough u c ∙ ap (named (kind_of led start)) n.0 ∙ ap Err (sym n.1)
 

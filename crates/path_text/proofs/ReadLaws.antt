@@ -4,9 +4,8 @@ use mathlib.Core.List.{map-append}
 use lib.ListN.{length-map}
 use Rattle.std.proofs.lemmas.Bool.{ltb-true, ltb-false}
 use Rattle.hir_def.specs.declared.Name.{Name}
-use Rattle.hir_def.specs.declared.fault.Fault.{Fault}
-use Rattle.hir_def.specs.declared.fault.Fault.TheVariants.{Text}
-use Rattle.hir_def.specs.declared.fault.Refusal.TheVariants.{TooManyNames, TooManySupers, BadText, UnknownName}
+use Rattle.hir_def.specs.declared.fault.TextFault.{TextFault}
+use Rattle.hir_def.specs.declared.fault.TextFault.TheVariants.{TooManyNames, TooManySupers, BadText, UnknownName}
 use Rattle.path_text.specs.declared.mod_path.PathKind.{PathKind}
 use Rattle.hir_def.specs.declared.fault.Failure.{Failure}
 use Rattle.hir_def.specs.declared.fault.Failure.TheVariants.{Memory, Refused}
@@ -40,7 +39,7 @@ numbered ls [] ns e = let z : [] ≡ ns = cc in subst (Numbered ls []) z tt
 numbered ls (s ∷ ss) ns e = one-numbered ls s.text (texts ss) (first ls s.text 0) s.place (numbers_of ls ss) ns refl e (numbered ls ss)
 
 -- an allowed reading has its kind and its numbers
-parts : (c : Result (Unit {0}) Fault) (k' : PathKind) (r : Result (List Name) ℕ) (k : PathKind) (ns : List Name) → allowed c (named k' r) ≡ Ok (k, ns) → (k' ≡ k) × (r ≡ Ok ns)
+parts : (c : Result (Unit {0}) TextFault) (k' : PathKind) (r : Result (List Name) ℕ) (k : PathKind) (ns : List Name) → allowed c (named k' r) ≡ Ok (k, ns) → (k' ≡ k) × (r ≡ Ok ns)
 parts (Err f) k' r k ns e = ok-err (sym e)
 parts (Ok u) k' (Err p) k ns e = ok-err (sym e)
 parts (Ok u) k' (Ok ms) k ns e = let z : (k', ms) ≡ (k, ns) = cc in (ap (λ (p : PathKind × List Name). p.0) z, ap (λ (p : PathKind × List Name). Ok p.1) z)
@@ -62,7 +61,7 @@ level-told false (s ∷ ss) = level_by (word_of s.text) (supers_at ss)
 counted : (n level : ℕ) (r : Read) (x : PathKind × List Name) → allowed (counts_of n level) r ≡ Ok x → (n ≤ 64) × (level ≤ 255)
 counted n level r x e = by (ltb 64 n) (ltb 255 level) refl refl e
   where
-    by : (a b : Bool) → ltb 64 n ≡ a → ltb 255 level ≡ b → allowed (cond a (Err (Text TooManyNames)) (cond b (Err (Text TooManySupers)) (Ok tt))) r ≡ Ok x → (n ≤ 64) × (level ≤ 255)
+    by : (a b : Bool) → ltb 64 n ≡ a → ltb 255 level ≡ b → allowed (cond a (Err TooManyNames) (cond b (Err TooManySupers) (Ok tt))) r ≡ Ok x → (n ≤ 64) × (level ≤ 255)
     by true b f g h = ok-err (sym h)
     by false true f g h = ok-err (sym h)
     by false false f g h = (ltb-false 64 n f, ltb-false 255 level g)
@@ -132,13 +131,13 @@ module _ (ls : List (List ℕ)) (text : List ℕ) where
             ∙ placed text kind (texts m.pre ++ m.span.text ∷ texts m.post) r (take len ss) m.pre m.span m.post (sym (take-append-drop len ss) ∙ ap (λ (l : List Span). take len ss ++ l) m.split) (map-append text_of m.pre (m.span ∷ m.post));
       }
 
-  named-denies : IsPath text → length names ≤ 64 → level ≤ 255 → (r : Result (List Name) ℕ) → numbers_of ls names ≡ r → (f : Fault) → named kind r ≡ Err f → Denies ls text f
+  named-denies : IsPath text → length names ≤ 64 → level ≤ 255 → (r : Result (List Name) ℕ) → numbers_of ls names ≡ r → (f : TextFault) → named kind r ≡ Err f → Denies ls text f
   named-denies p few low (Ok ns) g f e = ok-err e
-  named-denies p few low (Err place) g f e = let z : Text (UnknownName place) ≡ f = cc in subst (Denies ls text) z (unlisted p few low place g)
+  named-denies p few low (Err place) g f e = let z : UnknownName place ≡ f = cc in subst (Denies ls text) z (unlisted p few low place g)
 
-  counts-deny : IsPath text → (a b : Bool) → ltb 64 (length names) ≡ a → ltb 255 level ≡ b → (f : Fault) → allowed (cond a (Err (Text TooManyNames)) (cond b (Err (Text TooManySupers)) (Ok tt))) (named kind (numbers_of ls names)) ≡ Err f → Denies ls text f
+  counts-deny : IsPath text → (a b : Bool) → ltb 64 (length names) ≡ a → ltb 255 level ≡ b → (f : TextFault) → allowed (cond a (Err TooManyNames) (cond b (Err TooManySupers) (Ok tt))) (named kind (numbers_of ls names)) ≡ Err f → Denies ls text f
   counts-deny p true b x y f e =
-      let z : Text TooManyNames ≡ f = cc in
+      let z : TooManyNames ≡ f = cc in
       subst (Denies ls text) z
       (record {
         kind = kind;
@@ -147,7 +146,7 @@ module _ (ls : List (List ℕ)) (text : List ℕ) where
         many = subst (λ (n : ℕ). 64 < n) (sym (length-map names (λ (s : Span). s.text))) (ltb-true 64 (length names) x);
       })
   counts-deny p false true x y f e =
-      let z : Text TooManySupers ≡ f = cc in
+      let z : TooManySupers ≡ f = cc in
       subst (Denies ls text) z
       (record {
         kind = kind;
@@ -158,18 +157,18 @@ module _ (ls : List (List ℕ)) (text : List ℕ) where
       })
   counts-deny p false false x y f e = named-denies p (ltb-false 64 (length names) x) (ltb-false 255 level y) (numbers_of ls names) refl f e
 
-  denied : (f : Fault) (o : Option ℕ) → Verdict text o → unless_stopped o (read_words ls (led_by text) ss) ≡ Err f → Denies ls text f
-  denied f (Some place) v e = let z : Text (BadText place) ≡ f = cc in subst (Denies ls text) z v
+  denied : (f : TextFault) (o : Option ℕ) → Verdict text o → unless_stopped o (read_words ls (led_by text) ss) ≡ Err f → Denies ls text f
+  denied f (Some place) v e = let z : BadText place ≡ f = cc in subst (Denies ls text) z v
   denied f None v e = counts-deny v (ltb 64 (length names)) (ltb 255 level) refl refl f e
 
-  pub denies-so : (f : Fault) → read_of ls text ≡ Err f → Denies ls text f
+  pub denies-so : (f : TextFault) → read_of ls text ≡ Err f → Denies ls text f
   denies-so f e = denied f (stop_of text) (verdict text) e
 
-  denied-so : (e : Failure) → IfRefused (λ f. read_of ls text ≡ Err f) e → IfRefused (Denies ls text) e
+  denied-so : (e : Failure TextFault) → IfRefused (λ f. read_of ls text ≡ Err f) e → IfRefused (Denies ls text) e
   denied-so (Memory e) h = tt
   denied-so (Refused f) h = denies-so f h
 
   -- what a reading tells, for any type of paths
-  pub exactly : (P : Type 0) (kind_in : P → PathKind) (names_in : P → List Name) (r : Result P Failure) → MatchResult r (λ p. read_of ls text ≡ Ok (kind_in p, names_in p)) (IfRefused (λ f. read_of ls text ≡ Err f)) → MatchResult r (λ p. IsRead ls text (kind_in p) (names_in p)) (IfRefused (Denies ls text))
+  pub exactly : (P : Type 0) (kind_in : P → PathKind) (names_in : P → List Name) (r : Result P (Failure TextFault)) → MatchResult r (λ p. read_of ls text ≡ Ok (kind_in p, names_in p)) (IfRefused (λ f. read_of ls text ≡ Err f)) → MatchResult r (λ p. IsRead ls text (kind_in p) (names_in p)) (IfRefused (Denies ls text))
   exactly P kind_in names_in (Ok p) e = reads_so (kind_in p) (names_in p) e
   exactly P kind_in names_in (Err u) e = denied-so u e

@@ -2,9 +2,8 @@
 use Rattle.std.specs.Prelude.{◌≡◌, ℕ, ◌<◌, ◌≤◌, List, [], ◌∷◌, ◌++◌, length, Some}
 use Rattle.std.specs.List.{slice_get}
 use Rattle.hir_def.specs.declared.Name.{Name}
-use Rattle.hir_def.specs.declared.fault.Fault.{Fault}
-use Rattle.hir_def.specs.declared.fault.Fault.TheVariants.{Text, Index, Tree}
-use Rattle.hir_def.specs.declared.fault.Refusal.TheVariants.{NoModule, TooManyNames, TooManySupers, NoName, NothingFilled, Dangling, NoRows, BadRow, BadText, UnknownName}
+use Rattle.hir_def.specs.declared.fault.TextFault.{TextFault}
+use Rattle.hir_def.specs.declared.fault.TextFault.TheVariants.{TooManyNames, TooManySupers, BadLine, BadText, UnknownName}
 use Rattle.path_text.specs.declared.mod_path.PathKind.{PathKind}
 use Rattle.path_text.specs.declared.mod_path.PathKind.TheVariants.{Plain, Super, Crate, Abs, DollarCrate}
 use Rattle.path_text.specs.Grammar.{lead, Reads, IsPath}
@@ -73,16 +72,9 @@ pub record Unlisted (ls : List (List ℕ)) (text : List ℕ) (place : ℕ) : Typ
   pub here : place ≡ length (lead kind ++ closed (reads.start ++ before))
 
 -- a refused text is no path, or a path whose counts or names are at fault
-abbrev pub Denies : List (List ℕ) → List ℕ → Fault → Type 0
-Denies ls text (Tree r) = ⊥
-Denies ls text (Index r) = ⊥
-Denies ls text (Text NoModule) = ⊥
-Denies ls text (Text TooManyNames) = TooLong text
-Denies ls text (Text TooManySupers) = TooHigh text
-Denies ls text (Text (NoName p)) = ⊥
-Denies ls text (Text NothingFilled) = ⊥
-Denies ls text (Text (Dangling p)) = ⊥
-Denies ls text (Text (NoRows p)) = ⊥
-Denies ls text (Text (BadRow p)) = ⊥
-Denies ls text (Text (BadText p)) = RefusedAt IsPath text p
-Denies ls text (Text (UnknownName p)) = Unlisted ls text p
+abbrev pub Denies : List (List ℕ) → List ℕ → TextFault → Type 0
+Denies ls text TooManyNames = TooLong text
+Denies ls text TooManySupers = TooHigh text
+Denies ls text (BadLine line) = ⊥
+Denies ls text (BadText at) = RefusedAt IsPath text at
+Denies ls text (UnknownName at) = Unlisted ls text at

@@ -1,12 +1,11 @@
 -- Name lists: the lines of a text, the number of a name, and which lines are at fault.
-use Rattle.std.specs.Prelude.{◌≡◌, ℕ, ◌+◌, ◌-◌, ◌<◌, ◌≤◌, Bool, true, cond, not, ◌&&◌, ◌||◌, List, [], ◌∷◌, length, get_or, take, Some, None, Option, ◌==◌, ◌≢◌, nat_le, nat_lt, slice_index_or}
+use Rattle.std.specs.Prelude.{◌≡◌, ℕ, ◌+◌, ◌-◌, ◌<◌, ◌≤◌, Bool, true, cond, if◌then◌else◌, not, ◌&&◌, ◌||◌, List, [], ◌∷◌, length, get_or, take, Some, None, Ok, Err, Option, Result, ◌==◌, ◌≢◌, nat_le, nat_lt, slice_index_or}
 use Rattle.std.specs.Borrow.{Bor}
 use Rattle.std.specs.List.{slice_get}
 use Rattle.std.specs.Str.{bytes_eq}
 use Rattle.hir_def.specs.declared.Name.{Name}
-use Rattle.hir_def.specs.declared.fault.Fault.{Fault}
-use Rattle.hir_def.specs.declared.fault.Fault.TheVariants.{Text}
-use Rattle.hir_def.specs.declared.fault.Refusal.TheVariants.{BadRow}
+use Rattle.hir_def.specs.declared.fault.TextFault.{TextFault}
+use Rattle.hir_def.specs.declared.fault.TextFault.TheVariants.{BadLine}
 use Rattle.hir_def.specs.Builtins.{text_at}
 use Rattle.path_text.specs.declared.name_list.NameList.{NameList}
 
@@ -45,16 +44,16 @@ good_line n i l = nat_lt i n && (nat_le 19 i || bytes_eq l (builtin_line i))
 
 -- the first line at fault of a list for n names, where the lines are counted from i
 abbrev pub bad_from : List (List ℕ) → Bool → ℕ → ℕ → Option ℕ
-bad_from [] half n i = cond (half || (nat_lt i n || nat_lt i 19)) (Some i) None
-bad_from (l ∷ ls) half n i = cond (good_line n i l) (bad_from ls half n (i + 1)) (Some i)
+bad_from [] half n i = if half || (nat_lt i n || nat_lt i 19) then Some i else None
+bad_from (l ∷ ls) half n i = if good_line n i l then bad_from ls half n (i + 1) else Some i
 
 abbrev pub bad_line : List ℕ → ℕ → Option ℕ
 bad_line bs n = bad_from (lines_of bs) (unfinished bs) n 0
 
 -- a list is refused at the first line at fault
-abbrev pub refused_at : Option ℕ → Option Fault
+abbrev pub refused_at : Option ℕ → Option TextFault
 refused_at None = None
-refused_at (Some i) = Some (Text (BadRow i))
+refused_at (Some i) = Some (BadLine i)
 
 -- the list fits an index with n names
 pub record Fits (bs : List ℕ) (n : ℕ) : Type 0 where
@@ -82,21 +81,27 @@ abbrev pub FirstAt : (ℕ → Type 0) → ℕ → Type 0
 FirstAt P i = P i × ((k : ℕ) → k < i → P k → ⊥)
 
 -- the refusal names the first line at fault
-abbrev pub FirstBad : List ℕ → ℕ → Fault → Type 0
-FirstBad bs n e = (i : ℕ) × (e ≡ Text (BadRow i)) × FirstAt (AtFault bs n) i
+abbrev pub FirstBad : List ℕ → ℕ → TextFault → Type 0
+FirstBad bs n e = (i : ℕ) × (e ≡ BadLine i) × FirstAt (AtFault bs n) i
 
 -- the names of a list for n names: its first n lines, and of a list that fits all lines
 abbrev pub names_of : List ℕ → ℕ → List (List ℕ)
 names_of bs n = take n (lines_of bs)
 
--- the names that a list has
+-- the text of a list, for how many names it is, and the names that it has
+abbrev pub text_of : NameList → List ℕ
+text_of l = l.bytes.now
+
+abbrev pub count_of : NameList → ℕ
+count_of l = l.names
+
 abbrev pub name_lines : NameList → List (List ℕ)
-name_lines l = names_of l.bytes.now l.names
+name_lines l = names_of (text_of l) (count_of l)
 
 -- the number of the first line that is the name, where the lines are counted from i
 abbrev pub first : List (List ℕ) → List ℕ → ℕ → Option ℕ
 first [] t i = None
-first (l ∷ ls) t i = cond (bytes_eq l t) (Some i) (first ls t (i + 1))
+first (l ∷ ls) t i = if bytes_eq l t then Some i else first ls t (i + 1)
 
 abbrev pub as_name : Option ℕ → Option Name
 as_name None = None
@@ -110,3 +115,8 @@ IsName bs n t i = (i < n) × (slice_get (lines_of bs) i ≡ Some t)
 abbrev pub held_by : Option (Bor (List ℕ)) → Option (List ℕ)
 held_by None = None
 held_by (Some s) = Some s.now
+
+-- what making a list answers: the list, or the first line at fault
+abbrev pub MakesList : List ℕ → ℕ → Result NameList TextFault → Type 0
+MakesList bs n (Ok l) = (bad_line bs n ≡ None) × (text_of l ≡ bs) × (count_of l ≡ n)
+MakesList bs n (Err f) = refused_at (bad_line bs n) ≡ Some f

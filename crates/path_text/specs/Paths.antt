@@ -1,9 +1,8 @@
 -- The path that a text stands for, by the names of a list.
-use Rattle.std.specs.Prelude.{ℕ, Bool, false, cond, ◌&&◌, List, [], ◌∷◌, length, drop, Some, None, Ok, Err, Option, Result, ◌==◌, nat_lt}
+use Rattle.std.specs.Prelude.{ℕ, Bool, false, cond, if◌then◌else◌, ◌&&◌, List, [], ◌∷◌, length, drop, Some, None, Ok, Err, Option, Result, ◌==◌, nat_lt}
 use Rattle.hir_def.specs.declared.Name.{Name}
-use Rattle.hir_def.specs.declared.fault.Fault.{Fault}
-use Rattle.hir_def.specs.declared.fault.Fault.TheVariants.{Text}
-use Rattle.hir_def.specs.declared.fault.Refusal.TheVariants.{TooManyNames, TooManySupers, BadText, UnknownName}
+use Rattle.hir_def.specs.declared.fault.TextFault.{TextFault}
+use Rattle.hir_def.specs.declared.fault.TextFault.TheVariants.{TooManyNames, TooManySupers, BadText, UnknownName}
 use Rattle.path_text.specs.declared.mod_path.PathKind.{PathKind}
 use Rattle.path_text.specs.Scan.{stop_of}
 use Rattle.path_text.specs.Numbers.{numbers_of}
@@ -19,17 +18,17 @@ abbrev pub spans_of : Bool → List ℕ → List Span
 spans_of led text = cond led (spans 0 (drop 2 text) 2) (spans 0 text 0)
 
 -- at most 64 names, and then at most 255 `super`
-abbrev pub counts_of : ℕ → ℕ → Result (Unit {0}) Fault
-counts_of names level = cond (nat_lt 64 names) (Err (Text TooManyNames)) (cond (nat_lt 255 level) (Err (Text TooManySupers)) (Ok tt))
+abbrev pub counts_of : ℕ → ℕ → Result (Unit {0}) TextFault
+counts_of names level = if nat_lt 64 names then Err TooManyNames else if nat_lt 255 level then Err TooManySupers else Ok tt
 
 abbrev pub Read : Type 0
-Read = Result (PathKind × List Name) Fault
+Read = Result (PathKind × List Name) TextFault
 
 abbrev pub named : PathKind → Result (List Name) ℕ → Read
 named k (Ok ns) = Ok (k, ns)
-named k (Err place) = Err (Text (UnknownName place))
+named k (Err place) = Err (UnknownName place)
 
-abbrev pub allowed : Result (Unit {0}) Fault → Read → Read
+abbrev pub allowed : Result (Unit {0}) TextFault → Read → Read
 allowed (Ok u) r = r
 allowed (Err f) r = Err f
 
@@ -40,7 +39,7 @@ read_words ls led ss =
 
 abbrev pub unless_stopped : Option ℕ → Read → Read
 unless_stopped None r = r
-unless_stopped (Some place) r = Err (Text (BadText place))
+unless_stopped (Some place) r = Err (BadText place)
 
 -- the language first, then the counts, then the names
 abbrev pub read_of : List (List ℕ) → List ℕ → Read

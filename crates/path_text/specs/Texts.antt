@@ -1,10 +1,9 @@
 -- What the check of a text answers.
 use Rattle.std.specs.Prelude.{ℕ, Some, None, Ok, Err, Option, Result}
-use Rattle.hir_def.specs.declared.fault.Fault.{Fault}
-use Rattle.hir_def.specs.declared.fault.Fault.TheVariants.{Text}
-use Rattle.hir_def.specs.declared.fault.Refusal.TheVariants.{BadText}
+use Rattle.hir_def.specs.declared.fault.TextFault.{TextFault}
+use Rattle.hir_def.specs.declared.fault.TextFault.TheVariants.{BadText}
 
 -- a text is refused where it stops being a path
-abbrev pub checked : Option ℕ → Result (Unit {0}) Fault
+abbrev pub checked : Option ℕ → Result (Unit {0}) TextFault
 checked None = Ok tt
-checked (Some place) = Err (Text (BadText place))
+checked (Some place) = Err (BadText place)

@@ -2,7 +2,7 @@
 use hir_def::{CrateId, Name};
 
 /// How a path begins.
-#[derive(Clone, Copy)]
+#[derive(Clone, Copy, PartialEq, Eq, Hash, Debug)]
 pub enum PathKind {
     Plain,
     /// `self` is level 0, `super` 1, and so on.
@@ -15,7 +15,7 @@ pub enum PathKind {
 }
 
 /// A path: any number of names and any level; 64 names and level 255 are limits of the calls that take one.
-#[derive(Drop)]
+#[derive(Debug, Drop)]
 pub struct ModPath {
     pub kind: PathKind,
     pub names: Vec<Name>,

@@ -1,11 +1,11 @@
 // Name lists: a name's number is its first line, counted from 0.
-ghost use Rattle.std.specs.Prelude.{◌≡◌, is_ok, IfOk, IfErr, Some, None, Decides, MatchOption, MatchResult};
+ghost use Rattle.std.specs.Prelude.{◌≡◌, is_ok, IfOk, IfErr, Decides, MatchOption};
 ghost use Rattle.std.specs.List.{slice_get};
-ghost use Rattle.path_text.specs.Lists.{lines_of, OneLine, Split, good_line, bad_line, refused_at, Fits, FirstBad, name_lines, Never, FirstAt, first, as_name, IsName, held_by};
+ghost use Rattle.path_text.specs.Lists.{lines_of, OneLine, Split, good_line, bad_line, MakesList, Fits, FirstBad, text_of, count_of, name_lines, Never, FirstAt, first, as_name, IsName, held_by};
 
 use hir_def::Name;
 use hir_def::builtin_type::BuiltinType;
-use hir_def::fault::{Fault, Refusal};
+use hir_def::fault::TextFault;
 
 const BUILTIN_NAMES: usize = 19;
 
@@ -65,14 +65,14 @@ impl<'a> NameList<'a> {
     /// Takes in the list of an index with that many names, or says which line is the first at fault. A list that fits
     /// has one line for each name, a line feed ends each line, and the first nineteen are the built-in names in their
     /// order.
-    pub fn new(bytes: &'a [u8], names: u32) -> Result<NameList<'a>, Fault>
-        ensures answers { MatchResult result (λ l. (bad_line bytes.now names ≡ None) × (l.bytes.now ≡ bytes.now) × (l.names ≡ names)) (λ e. refused_at (bad_line bytes.now names) ≡ Some e) }
+    pub fn new(bytes: &'a [u8], names: u32) -> Result<NameList<'a>, TextFault>
+        ensures answers { MakesList bytes.now names result }
         ensures accepted { Decides (is_ok result) (Fits bytes.now names) }
-        ensures told { IfErr result (FirstBad bytes.now names) }
+        ensures refused { IfErr result (FirstBad bytes.now names) }
         ensures whole { IfOk result (λ l. name_lines l ≡ lines_of bytes.now) }
     {
         match first_bad_line(bytes, names) {
-            Some(line) => Err(Fault::Text(Refusal::BadRow(line))),
+            Some(line) => Err(TextFault::BadLine(line)),
             None => Ok(NameList { bytes, names }),
         }
     }
@@ -80,7 +80,8 @@ impl<'a> NameList<'a> {
     /// The name's number, if the list has the name: its first line.
     pub fn number(&self, name: &[u8]) -> Option<Name>
         ensures value { result ≡ as_name (first (name_lines self.now) name.now 0) }
-        ensures earliest { MatchOption result (Never (IsName self.now.bytes.now self.now.names name.now)) (λ n. FirstAt (IsName self.now.bytes.now self.now.names name.now) n.0) }
+        ensures earliest { let at = IsName (text_of self.now) (count_of self.now) name.now in
+            MatchOption result (Never at) (λ n. FirstAt at n.0) }
     {
         let mut rest = self.bytes;
         for number in 0..self.names {

@@ -1,9 +1,9 @@
 // From the words of a path to its kind and the numbers of its names.
 ghost use Rattle.std.specs.Prelude.{◌≡◌, ℕ, ◌+◌, ◌^◌, ◌<◌, ◌≤◌, Bool, map, length, IfOk, Ok, Err, MatchResult};
-ghost use Rattle.hir_def.specs.Faults.{IfRefused, told};
-ghost use Rattle.hir_def.specs.declared.fault.Fault.TheVariants.{Text};
-ghost use Rattle.hir_def.specs.declared.fault.Refusal.TheVariants.{UnknownName};
+ghost use Rattle.hir_def.specs.Faults.{IfRefused, OnMemory, text_place};
+ghost use Rattle.hir_def.specs.declared.fault.TextFault.TheVariants.{UnknownName};
 ghost use Rattle.path_text.specs.Lists.{name_lines};
+ghost use Rattle.path_text.specs.Grammar.{IsPath};
 ghost use Rattle.path_text.specs.Laws.{IsRead, Denies};
 ghost use Rattle.path_text.specs.Numbers.{numbers_of};
 ghost use Rattle.path_text.specs.Paths.{led_by, spans_of, counts_of, read_words, read_of};
@@ -13,7 +13,7 @@ use crate::mod_path::{ModPath, PathKind};
 use crate::name_list::NameList;
 use crate::scan::{Word, WordKind, has_colon, split_words, stop_of, word_kind};
 use hir_def::Name;
-use hir_def::fault::{Failure, Fault, Refusal};
+use hir_def::fault::{Failure, TextFault};
 use std::alloc::{AllocError, Global};
 
 /// How a path begins: its first word, the level of `self` and `super`, and how many words that takes.
@@ -101,8 +101,12 @@ fn kind_of(led: bool, start: Start) -> PathKind
 }
 
 // The numbers of the names, or a refusal at the first that the list does not have.
-fn name_numbers(alloc: Global, list: &NameList, words: &[Word]) -> Result<Vec<Name>, Failure>
-    ensures { MatchResult result (λ v. numbers_of (name_lines list.now) (map span_of words.now) ≡ Ok v.items) (IfRefused (λ f. (numbers_of (name_lines list.now) (map span_of words.now) ≡ Err (told f).place) × (f ≡ Text (UnknownName (told f).place)))) }
+fn name_numbers(
+    alloc: Global,
+    list: &NameList,
+    words: &[Word],
+) -> Result<Vec<Name>, Failure<TextFault>>
+    ensures { MatchResult result (λ v. numbers_of (name_lines list.now) (map span_of words.now) ≡ Ok v.items) (IfRefused (λ f. (numbers_of (name_lines list.now) (map span_of words.now) ≡ Err (text_place f)) × (f ≡ UnknownName (text_place f)))) }
 {
     let mut numbers = Vec::new(alloc);
     for word in words.iter() {
@@ -114,14 +118,14 @@ fn name_numbers(alloc: Global, list: &NameList, words: &[Word]) -> Result<Vec<Na
     Ok(numbers)
 }
 
-fn check_counts(names: usize, level: usize) -> Result<(), Fault>
+fn check_counts(names: usize, level: usize) -> Result<(), TextFault>
     ensures { result ≡ counts_of names level }
 {
     if names > 64 {
-        return Err(Fault::Text(Refusal::TooManyNames));
+        return Err(TextFault::TooManyNames);
     }
     if level > 255 {
-        return Err(Fault::Text(Refusal::TooManySupers));
+        return Err(TextFault::TooManySupers);
     }
     Ok(())
 }
@@ -142,7 +146,12 @@ fn words_of<'a>(alloc: Global, text: &'a [u8]) -> Result<Vec<Word<'a>>, AllocErr
     }
 }
 
-fn read_words(alloc: Global, list: &NameList, led: bool, words: &[Word]) -> Result<ModPath, Failure>
+fn read_words(
+    alloc: Global,
+    list: &NameList,
+    led: bool,
+    words: &[Word],
+) -> Result<ModPath, Failure<TextFault>>
     ensures { MatchResult result (λ p. read_words (name_lines list.now) led (map span_of words.now) ≡ Ok (p.kind, p.names.items)) (IfRefused (λ f. read_words (name_lines list.now) led (map span_of words.now) ≡ Err f)) }
 {
     let start = start_of(led, words);
@@ -156,20 +165,15 @@ fn read_words(alloc: Global, list: &NameList, led: bool, words: &[Word]) -> Resu
     })
 }
 
-fn read_checked(alloc: Global, list: &NameList, text: &[u8]) -> Result<ModPath, Failure>
-    ensures { MatchResult result (λ p. read_of (name_lines list.now) text.now ≡ Ok (p.kind, p.names.items)) (IfRefused (λ f. read_of (name_lines list.now) text.now ≡ Err f)) }
+/// The path that a text stands for, its names by their numbers in the list.
+pub fn read_path(alloc: Global, list: &NameList, text: &[u8]) -> Result<ModPath, Failure<TextFault>>
+    ensures value { MatchResult result (λ p. read_of (name_lines list.now) text.now ≡ Ok (p.kind, p.names.items)) (IfRefused (λ f. read_of (name_lines list.now) text.now ≡ Err f)) }
+    ensures exact { MatchResult result (λ p. IsRead (name_lines list.now) text.now p.kind p.names.items) (IfRefused (Denies (name_lines list.now) text.now)) }
+    ensures memory { OnMemory result (IsPath text.now) }
 {
     if let Some(place) = stop_of(text) {
-        return Err(Failure::Refused(Fault::Text(Refusal::BadText(place))));
+        return Err(Failure::Refused(TextFault::BadText(place)));
     }
     let words = words_of(alloc, text)?;
     read_words(alloc, list, is_led(text), words.as_slice())
-}
-
-/// The path that a text stands for, its names by their numbers in the list.
-pub fn read_path(alloc: Global, list: &NameList, text: &[u8]) -> Result<ModPath, Failure>
-    ensures value { MatchResult result (λ p. read_of (name_lines list.now) text.now ≡ Ok (p.kind, p.names.items)) (IfRefused (λ f. read_of (name_lines list.now) text.now ≡ Err f)) }
-    ensures exact { MatchResult result (λ p. IsRead (name_lines list.now) text.now p.kind p.names.items) (IfRefused (Denies (name_lines list.now) text.now)) }
-{
-    read_checked(alloc, list, text)
 }

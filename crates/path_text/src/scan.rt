@@ -1,17 +1,16 @@
 // The language of path text: where a text stops being a path.
 ghost use Rattle.std.specs.Prelude.{◌≡◌, ℕ, ◌+◌, ◌^◌, ◌<◌, ◌≤◌, true, false, map, length, IfOk, ◌≢◌, slice_index};
 ghost use Rattle.std.specs.Str.{bytes_eq};
-ghost use Rattle.hir_def.specs.declared.fault.Fault.TheVariants.{Text};
-ghost use Rattle.hir_def.specs.declared.fault.Refusal.TheVariants.{UnknownName};
+ghost use Rattle.hir_def.specs.declared.fault.TextFault.TheVariants.{UnknownName};
 ghost use Rattle.path_text.specs.Bytes.{letter, inner};
 ghost use Rattle.path_text.specs.Readings.{span_of, spans};
 ghost use Rattle.path_text.specs.Scan.{word_of, stands, after, barred, want, stop, stop_of};
 
-use hir_def::fault::{Fault, Refusal};
+use hir_def::fault::TextFault;
 use std::alloc::{AllocError, Global};
 
 /// What a word is to a path.
-#[derive(Clone, Copy)]
+#[derive(Clone, Copy, PartialEq, Eq, Debug)]
 pub(crate) enum WordKind {
     Crate,
     Own,
@@ -22,7 +21,7 @@ pub(crate) enum WordKind {
 }
 
 /// What stands before a word: nothing, `self` and `super` alone, or what only names can follow.
-#[derive(Clone, Copy)]
+#[derive(Clone, Copy, PartialEq, Eq, Debug)]
 pub(crate) enum Before {
     Nothing,
     Supers,
@@ -144,10 +143,10 @@ pub(crate) struct Word<'a> {
 
 impl<'a> Word<'a> {
     /// The refusal of a name that the list does not have.
-    pub(crate) fn unknown(&self) -> Fault
-        ensures { result ≡ Text (UnknownName self.now.place) }
+    pub(crate) fn unknown(&self) -> TextFault
+        ensures { result ≡ UnknownName self.now.place }
     {
-        Fault::Text(Refusal::UnknownName(self.place))
+        TextFault::UnknownName(self.place)
     }
 }
 

@@ -1,11 +1,11 @@
 // The name list of a file: the built-in names, then each name that the file declares, once.
-ghost use Rattle.std.specs.Prelude.{◌≡◌, ◌++◌, IfOk, OnOk, MatchResult, None, Some};
-ghost use Rattle.path_text.specs.Lists.{bad_line, refused_at};
+ghost use Rattle.std.specs.Prelude.{◌≡◌, ◌++◌, IfOk, OnOk};
+ghost use Rattle.path_text.specs.Lists.{MakesList};
 ghost use Rattle.paths.specs.Lines.{line, builtin_lines, Grows};
 
 use hir_def::Name;
 use hir_def::builtin_type::BuiltinType;
-use hir_def::fault::Fault;
+use hir_def::fault::TextFault;
 use path_text::name_list::NameList;
 use std::alloc::{AllocError, Global};
 use std::collections::BTreeSet;
@@ -73,8 +73,8 @@ impl<'a> Listing<'a> {
     }
 
     /// The names so far as a name list.
-    pub fn names(&self) -> Result<NameList, Fault>
-        ensures { MatchResult result (λ l. (bad_line self.now.bytes.items self.now.count ≡ None) × (l.bytes.now ≡ self.now.bytes.items) × (l.names ≡ self.now.count)) (λ e. refused_at (bad_line self.now.bytes.items self.now.count) ≡ Some e) }
+    pub fn names(&self) -> Result<NameList, TextFault>
+        ensures { MakesList self.now.bytes.items self.now.count result }
     {
         NameList::new(self.bytes.as_slice(), self.count)
     }

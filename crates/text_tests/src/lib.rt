@@ -3,7 +3,7 @@
 
 #[cfg(test)]
 mod tests {
-    use hir_def::fault::Failure;
+    use hir_def::fault::{Failure, Fault, FaultCode, TextFault};
     use hir_def::{CrateId, Name};
     use path_text::mod_path::{ModPath, PathKind};
     use path_text::name_list::NameList;
@@ -13,11 +13,16 @@ mod tests {
     use std::process::Abort;
     use std::test::Fail;
 
+    fn code(fault: TextFault) -> (u32, usize) {
+        let FaultCode { number, place, .. } = Fault::from(fault).code();
+        (number, place)
+    }
+
     // The number and the place of a refused text; (0, 0) of a path.
-    fn told(text: &[u8]) -> (u32, usize) {
+    fn refusal(text: &[u8]) -> (u32, usize) {
         match check_path_text(text) {
             Ok(()) => (0, 0),
-            Err(fault) => (fault.told().number, fault.told().place),
+            Err(fault) => code(fault),
         }
     }
 
@@ -38,7 +43,7 @@ mod tests {
             b"a::__",
         ];
         for text in texts {
-            assert_eq!(rt; told(text), (0, 0));
+            assert_eq!(rt; refusal(text), (0, 0));
         }
     }
 
@@ -56,35 +61,35 @@ mod tests {
 
     #[test]
     fn texts_that_end_early(rt: HostRuntime) {
-        assert_eq!(rt; told(b""), (9, 0));
-        assert_eq!(rt; told(b":"), (9, 1));
-        assert_eq!(rt; told(b"::"), (9, 2));
-        assert_eq!(rt; told(b"a:"), (9, 2));
-        assert_eq!(rt; told(b"a::"), (9, 3));
-        assert_eq!(rt; told(b"_"), (9, 1));
+        assert_eq!(rt; refusal(b""), (9, 0));
+        assert_eq!(rt; refusal(b":"), (9, 1));
+        assert_eq!(rt; refusal(b"::"), (9, 2));
+        assert_eq!(rt; refusal(b"a:"), (9, 2));
+        assert_eq!(rt; refusal(b"a::"), (9, 3));
+        assert_eq!(rt; refusal(b"_"), (9, 1));
     }
 
     #[test]
     fn bytes_that_cannot_stand(rt: HostRuntime) {
-        assert_eq!(rt; told(b"9a"), (9, 0));
-        assert_eq!(rt; told(b"a:b"), (9, 2));
-        assert_eq!(rt; told(b"a b"), (9, 1));
-        assert_eq!(rt; told(b"a::9"), (9, 3));
-        assert_eq!(rt; told(b":::a"), (9, 2));
-        assert_eq!(rt; told(b"a::_::b"), (9, 4));
-        assert_eq!(rt; told(b"caf\xc3\xa9"), (9, 3));
-        assert_eq!(rt; told(b"\xff"), (9, 0));
+        assert_eq!(rt; refusal(b"9a"), (9, 0));
+        assert_eq!(rt; refusal(b"a:b"), (9, 2));
+        assert_eq!(rt; refusal(b"a b"), (9, 1));
+        assert_eq!(rt; refusal(b"a::9"), (9, 3));
+        assert_eq!(rt; refusal(b":::a"), (9, 2));
+        assert_eq!(rt; refusal(b"a::_::b"), (9, 4));
+        assert_eq!(rt; refusal(b"caf\xc3\xa9"), (9, 3));
+        assert_eq!(rt; refusal(b"\xff"), (9, 0));
     }
 
     #[test]
     fn words_that_cannot_stand(rt: HostRuntime) {
-        assert_eq!(rt; told(b"crate::self"), (9, 7));
-        assert_eq!(rt; told(b"a::super"), (9, 3));
-        assert_eq!(rt; told(b"a::crate-"), (9, 3));
-        assert_eq!(rt; told(b"super::self"), (9, 7));
-        assert_eq!(rt; told(b"self::self"), (9, 6));
-        assert_eq!(rt; told(b"::crate"), (9, 2));
-        assert_eq!(rt; told(b"xself::9"), (9, 7));
+        assert_eq!(rt; refusal(b"crate::self"), (9, 7));
+        assert_eq!(rt; refusal(b"a::super"), (9, 3));
+        assert_eq!(rt; refusal(b"a::crate-"), (9, 3));
+        assert_eq!(rt; refusal(b"super::self"), (9, 7));
+        assert_eq!(rt; refusal(b"self::self"), (9, 6));
+        assert_eq!(rt; refusal(b"::crate"), (9, 2));
+        assert_eq!(rt; refusal(b"xself::9"), (9, 7));
     }
 
     const BUILT_IN: &[u8] =
@@ -97,8 +102,9 @@ mod tests {
         match NameList::new(bytes.as_slice(), names) {
             Ok(_) => Ok(99),
             Err(fault) => {
-                assert_eq!(rt; fault.told().number, 8);
-                Ok(fault.told().place)
+                let (number, line) = code(fault);
+                assert_eq!(rt; number, 8);
+                Ok(line)
             }
         }
     }
@@ -147,7 +153,7 @@ mod tests {
         Ok(bytes)
     }
 
-    fn read(rt: &HostRuntime, text: &[u8]) -> Result<Result<ModPath, Failure>, Fail> {
+    fn read(rt: &HostRuntime, text: &[u8]) -> Result<Result<ModPath, Failure<TextFault>>, Fail> {
         let bytes = names(rt)?;
         let list = NameList::new(bytes.as_slice(), 22)
             .ok()
@@ -165,10 +171,10 @@ mod tests {
     }
 
     // The number and the place of a refusal; 0 and the number of names of a path.
-    fn read_told(rt: &HostRuntime, text: &[u8]) -> Result<(u32, usize), Fail> {
+    fn read_code(rt: &HostRuntime, text: &[u8]) -> Result<(u32, usize), Fail> {
         match read(rt, text)? {
             Ok(path) => Ok((0, path.names.len())),
-            Err(Failure::Refused(fault)) => Ok((fault.told().number, fault.told().place)),
+            Err(Failure::Refused(fault)) => Ok(code(fault)),
             Err(Failure::Memory(_)) => Ok((99, 0)),
         }
     }
@@ -206,16 +212,16 @@ mod tests {
 
     #[test]
     fn names_that_are_not_listed(rt: HostRuntime) -> Result<(), Fail> {
-        assert_eq!(rt; read_told(&rt, b"c")?, (10, 0));
-        assert_eq!(rt; read_told(&rt, b"::c")?, (10, 2));
+        assert_eq!(rt; read_code(&rt, b"c")?, (10, 0));
+        assert_eq!(rt; read_code(&rt, b"::c")?, (10, 2));
         assert_eq!(rt;
-            read_told(&rt, b"a::c::d")?,
+            read_code(&rt, b"a::c::d")?,
             (10, 3),
             "the first one is told"
         );
-        assert_eq!(rt; read_told(&rt, b"self::super::a::c")?, (10, 16));
+        assert_eq!(rt; read_code(&rt, b"self::super::a::c")?, (10, 16));
         assert_eq!(rt;
-            read_told(&rt, b"c::")?,
+            read_code(&rt, b"c::")?,
             (9, 3),
             "the text is tested before the names"
         );
@@ -235,19 +241,19 @@ mod tests {
     #[test]
     fn limits(rt: HostRuntime) -> Result<(), Fail> {
         let names = repeated(&rt, b"a::", 63, b"a")?;
-        assert_eq!(rt; read_told(&rt, names.as_slice())?, (0, 64));
+        assert_eq!(rt; read_code(&rt, names.as_slice())?, (0, 64));
         let names = repeated(&rt, b"a::", 64, b"a")?;
-        assert_eq!(rt; read_told(&rt, names.as_slice())?, (2, 64));
+        assert_eq!(rt; read_code(&rt, names.as_slice())?, (2, 64));
         let names = repeated(&rt, b"c::", 64, b"c")?;
         assert_eq!(rt;
-            read_told(&rt, names.as_slice())?,
+            read_code(&rt, names.as_slice())?,
             (2, 64),
             "counts before names"
         );
         let supers = repeated(&rt, b"super::", 254, b"super")?;
         assert_eq!(rt; read_as(&rt, supers.as_slice())?, (255, 99));
         let supers = repeated(&rt, b"super::", 255, b"super")?;
-        assert_eq!(rt; read_told(&rt, supers.as_slice())?, (2, 255));
+        assert_eq!(rt; read_code(&rt, supers.as_slice())?, (2, 255));
         Ok(())
     }
 

@@ -4,4 +4,14 @@
 #[cfg(test)]
 mod loads;
 #[cfg(test)]
-mod sights;
+mod viewers;
+
+#[cfg(test)]
+use hir_def::fault::Fault;
+
+// The number and the place of a refusal.
+#[cfg(test)]
+fn number_and_place(fault: Fault) -> (u32, usize) {
+    let code = fault.code();
+    (code.number, code.place)
+}

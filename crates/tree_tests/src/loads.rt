@@ -1,6 +1,8 @@
 // What a load refuses, at which row, and what it accepts at the limits.
+use crate::number_and_place;
+use hir_def::edition::Edition;
 use hir_def::fault::Fault;
-use hir_def::{BlockId, CrateId, Edition, ModuleId};
+use hir_def::{BlockId, CrateId, ModuleId};
 use nameres::Tree;
 use nameres::tree_rows::{BlockRow, CrateRow, ModuleRow, Tables};
 use nameres::tree_table::TreeTable;
@@ -36,7 +38,7 @@ fn krate(root: u32) -> CrateRow {
 }
 
 // The number and the place of a refused load; (0, 0) of one that is taken.
-fn told<'a>(
+fn refusal<'a>(
     modules: &'a [ModuleRow],
     blocks: &'a [BlockRow],
     crates: &'a [CrateRow],
@@ -48,7 +50,7 @@ fn told<'a>(
         crates,
     }) {
         Ok(()) => (0, 0),
-        Err(fault) => (fault.told().number, fault.told().place),
+        Err(fault) => number_and_place(Fault::from(fault)),
     }
 }
 
@@ -81,13 +83,13 @@ fn with_module(number: usize, row: ModuleRow) -> (u32, usize) {
     if number < 4 {
         modules[number] = row;
     }
-    told(&modules, &[block(2, 1)], &[krate(0)])
+    refusal(&modules, &[block(2, 1)], &[krate(0)])
 }
 
 #[test]
 fn a_good_tree_and_none_are_taken(rt: HostRuntime) {
-    assert_eq!(rt; told(&[], &[], &[]), (0, 0));
-    assert_eq!(rt; told(&MODULES, &[block(2, 1)], &[krate(0)]), (0, 0));
+    assert_eq!(rt; refusal(&[], &[], &[]), (0, 0));
+    assert_eq!(rt; refusal(&MODULES, &[block(2, 1)], &[krate(0)]), (0, 0));
 }
 
 #[test]
@@ -132,27 +134,27 @@ fn bad_module_rows(rt: HostRuntime) {
 #[test]
 fn bad_block_rows(rt: HostRuntime) {
     assert_eq!(rt;
-        told(&MODULES, &[block(2, 2)], &[krate(0)]),
+        refusal(&MODULES, &[block(2, 2)], &[krate(0)]),
         (8, 4),
         "it stands in itself"
     );
     assert_eq!(rt;
-        told(&MODULES, &[block(2, 3)], &[krate(0)]),
+        refusal(&MODULES, &[block(2, 3)], &[krate(0)]),
         (8, 4),
         "it stands in a module inside it"
     );
     assert_eq!(rt;
-        told(&MODULES[0..2], &[block(1, 0)], &[krate(0)]),
+        refusal(&MODULES[0..2], &[block(1, 0)], &[krate(0)]),
         (8, 2),
         "its root is in no block"
     );
     assert_eq!(rt;
-        told(&MODULES, &[block(2, 1), block(3, 1)], &[krate(0)]),
+        refusal(&MODULES, &[block(2, 1), block(3, 1)], &[krate(0)]),
         (8, 5),
         "its root is in another block"
     );
     assert_eq!(rt;
-        told(&MODULES, &[block(2, 1), block(9, 1)], &[krate(0)]),
+        refusal(&MODULES, &[block(2, 1), block(9, 1)], &[krate(0)]),
         (8, 5),
         "its root does not exist"
     );
@@ -161,9 +163,12 @@ fn bad_block_rows(rt: HostRuntime) {
         module(1, None, None),
         module(1, Some(0), None),
     ];
-    assert_eq!(rt; told(&two, &[block(2, 1)], &[krate(0), krate(1)]), (0, 0));
     assert_eq!(rt;
-        told(&two, &[block(2, 0)], &[krate(0), krate(1)]),
+        refusal(&two, &[block(2, 1)], &[krate(0), krate(1)]),
+        (0, 0)
+    );
+    assert_eq!(rt;
+        refusal(&two, &[block(2, 0)], &[krate(0), krate(1)]),
         (8, 3),
         "it stands in another crate"
     );
@@ -172,17 +177,17 @@ fn bad_block_rows(rt: HostRuntime) {
 #[test]
 fn bad_crate_rows(rt: HostRuntime) {
     assert_eq!(rt;
-        told(&MODULES, &[block(2, 1)], &[krate(0), krate(4)]),
+        refusal(&MODULES, &[block(2, 1)], &[krate(0), krate(4)]),
         (8, 6),
         "its root does not exist"
     );
     assert_eq!(rt;
-        told(&MODULES, &[block(2, 1)], &[krate(0), krate(1)]),
+        refusal(&MODULES, &[block(2, 1)], &[krate(0), krate(1)]),
         (8, 6),
         "its root is of another crate"
     );
     assert_eq!(rt;
-        told(&MODULES, &[block(2, 1)], &[]),
+        refusal(&MODULES, &[block(2, 1)], &[]),
         (8, 0),
         "the first module's crate does not exist"
     );
@@ -246,9 +251,9 @@ fn blocks_in_one(alloc: Global, count: u32) -> Result<(Vec<ModuleRow>, Vec<Block
 #[test]
 fn limits_of_modules(rt: HostRuntime) -> Result<(), Fail> {
     let full = modules_under_one(rt.alloc(), 4096)?;
-    assert_eq!(rt; told(full.as_slice(), &[], &[krate(0)]), (0, 0));
+    assert_eq!(rt; refusal(full.as_slice(), &[], &[krate(0)]), (0, 0));
     let over = modules_under_one(rt.alloc(), 4097)?;
-    assert_eq!(rt; told(over.as_slice(), &[], &[krate(0)]), (8, 4096));
+    assert_eq!(rt; refusal(over.as_slice(), &[], &[krate(0)]), (8, 4096));
     Ok(())
 }
 
@@ -256,12 +261,12 @@ fn limits_of_modules(rt: HostRuntime) -> Result<(), Fail> {
 fn limits_of_blocks(rt: HostRuntime) -> Result<(), Fail> {
     let (modules, blocks) = blocks_in_one(rt.alloc(), 1024)?;
     assert_eq!(rt;
-        told(modules.as_slice(), blocks.as_slice(), &[krate(0)]),
+        refusal(modules.as_slice(), blocks.as_slice(), &[krate(0)]),
         (0, 0)
     );
     let (modules, blocks) = blocks_in_one(rt.alloc(), 1025)?;
     assert_eq!(rt;
-        told(modules.as_slice(), blocks.as_slice(), &[krate(0)]),
+        refusal(modules.as_slice(), blocks.as_slice(), &[krate(0)]),
         (8, 1026 + 1024)
     );
     Ok(())
@@ -270,10 +275,10 @@ fn limits_of_blocks(rt: HostRuntime) -> Result<(), Fail> {
 #[test]
 fn limits_of_crates(rt: HostRuntime) -> Result<(), Fail> {
     let (modules, crates) = crates_alone(rt.alloc(), 64)?;
-    assert_eq!(rt; told(modules.as_slice(), &[], crates.as_slice()), (0, 0));
+    assert_eq!(rt; refusal(modules.as_slice(), &[], crates.as_slice()), (0, 0));
     let (modules, crates) = crates_alone(rt.alloc(), 65)?;
     assert_eq!(rt;
-        told(modules.as_slice(), &[], crates.as_slice()),
+        refusal(modules.as_slice(), &[], crates.as_slice()),
         (8, 65 + 64)
     );
     Ok(())

@@ -1,7 +1,7 @@
 // The fields of lines: numbers, editions, visibilities, and bytes in hex.
 use entries::visibility::{Visibility, VisibilityExplicitness};
-use hir_def::{BlockId, CrateId, Edition, ModuleId};
-use item_scope::told::{CallStyles, MapId};
+use hir_def::{BlockId, CrateId, ModuleId};
+use item_scope::index_data::{CallStyles, DefMapId};
 
 pub(crate) fn number(word: &str) -> Option<u32> {
     word.parse::<u32>().ok()
@@ -15,22 +15,12 @@ pub(crate) fn optional(word: &str) -> Option<Option<u32>> {
     Some(Some(number(word)?))
 }
 
-pub(crate) fn edition(word: &str) -> Option<Edition> {
-    match word {
-        "2015" => Some(Edition::Edition2015),
-        "2018" => Some(Edition::Edition2018),
-        "2021" => Some(Edition::Edition2021),
-        "2024" => Some(Edition::Edition2024),
-        _ => None,
-    }
-}
-
 /// `cN` or `bN`.
-pub(crate) fn map(word: &str) -> Option<MapId> {
+pub(crate) fn map(word: &str) -> Option<DefMapId> {
     if let Some(block) = word.strip_prefix('b') {
-        return Some(MapId::Block(BlockId(number(block)?)));
+        return Some(DefMapId::Block(BlockId(number(block)?)));
     }
-    Some(MapId::Crate(CrateId(number(word.strip_prefix('c')?)?)))
+    Some(DefMapId::Crate(CrateId(number(word.strip_prefix('c')?)?)))
 }
 
 /// Letters of `f`, `a` and `d`, or `-` for none.

@@ -1,8 +1,8 @@
 // The rows of a world that tell of its index beside the tree.
 use crate::fields::{map, number, optional, styles};
 use hir_def::{CrateId, EnumId, EnumVariantId, ExternCrateId, MacroId, ModuleId, Name};
-use index_tables::keys::{CrateName, EnumName, MapKey, MapName, ModuleName};
-use item_scope::told::{CallStyles, EnumVariant, ExternPrelude, MacroUse};
+use index_tables::keys::{CrateName, EnumName, MapName, ModuleName};
+use item_scope::index_data::{CallStyles, DefMapId, EnumVariant, ExternPrelude, MacroUse};
 use keyed::row::Row;
 use std::alloc::{AllocError, Global};
 
@@ -12,7 +12,7 @@ pub(crate) struct IndexRows {
     pub styles: Vec<CallStyles>,
     pub extern_prelude: Vec<Row<CrateName, ExternPrelude>>,
     pub macro_use: Vec<Row<MapName, MacroUse>>,
-    pub preludes: Vec<Row<MapKey, ModuleId>>,
+    pub preludes: Vec<Row<DefMapId, ModuleId>>,
     pub legacy: Vec<Row<ModuleName, MacroId>>,
     pub variants: Vec<Row<EnumName, EnumVariant>>,
 }
@@ -50,10 +50,10 @@ fn macro_use_row(rest: &str) -> Option<Row<MapName, MacroUse>> {
     }
 }
 
-fn prelude_row(rest: &str) -> Option<Row<MapKey, ModuleId>> {
+fn prelude_row(rest: &str) -> Option<Row<DefMapId, ModuleId>> {
     let (key, module) = rest.split_once(' ')?;
     Some(Row {
-        key: MapKey(map(key)?),
+        key: map(key)?,
         value: ModuleId(number(module)?),
     })
 }

@@ -4,7 +4,6 @@
 mod fields;
 mod index_rows;
 mod lines;
-mod memory;
 mod play;
 mod tables;
 

@@ -1,17 +1,16 @@
 // One world after another: its tables are loaded at `go`, and its commands answered from them.
 use crate::fields::{number, visibility};
 use crate::lines::{Line, said};
-use crate::memory::Memory;
 use crate::tables::Tables;
-use hir_def::fault::{Failure, Fault};
+use hir_def::fault::{Failure, Fault, FaultCode, TextFault};
 use hir_def::{ModuleId, Name};
-use index_tables::load::load;
-use nameres::tree_table::TreeTable;
+use index_tables::loaded_tables::LoadedTables;
 use path_text::mod_path::{ModPath, PathKind};
 use path_text::name_list::NameList;
 use path_text::read::read_path;
 use std::alloc::{AllocError, Global};
 use std::fmt::Write;
+use std::hash::{BuildHasherDefault, FoldHasher};
 
 fn push_bad(out: &mut String, line: Line) -> Result<(), AllocError> {
     let number = line.number;
@@ -19,10 +18,11 @@ fn push_bad(out: &mut String, line: Line) -> Result<(), AllocError> {
 }
 
 fn push_refused(out: &mut String, fault: Fault) -> Result<(), AllocError> {
-    let told = fault.told();
-    let layer = told.layer;
-    let number = told.number;
-    let place = told.place;
+    let FaultCode {
+        layer,
+        number,
+        place,
+    } = fault.code();
     writeln!(out, "refused {layer} {number} {place}")
 }
 
@@ -64,18 +64,18 @@ fn push_path(out: &mut String, path: &ModPath) -> Result<(), AllocError> {
 // What the commands of a world are answered from.
 #[derive(Clone, Copy)]
 struct World<'a, 'b, 'c> {
-    tree: &'b TreeTable<'a>,
-    list: Result<NameList<'c>, Fault>,
+    loaded: &'b LoadedTables<'a, BuildHasherDefault<FoldHasher>>,
+    list: Result<NameList<'c>, TextFault>,
 }
 
-fn read(alloc: Global, world: World, text: &[u8]) -> Result<ModPath, Failure> {
+fn read(alloc: Global, world: World, text: &[u8]) -> Result<ModPath, Failure<TextFault>> {
     read_path(alloc, &world.list?, text)
 }
 
 fn push_read(alloc: Global, out: &mut String, world: World, text: &[u8]) -> Result<(), AllocError> {
     match read(alloc, world, text) {
         Ok(path) => push_path(out, &path),
-        Err(Failure::Refused(fault)) => push_refused(out, fault),
+        Err(Failure::Refused(fault)) => push_refused(out, Fault::from(fault)),
         Err(Failure::Memory(e)) => Err(e),
     }
 }
@@ -104,10 +104,10 @@ fn answer_sight(out: &mut String, world: World, line: Line) -> Result<(), AllocE
     let (Some(sight), Some(module)) = (visibility(sight), number(module)) else {
         return push_bad(out, line);
     };
-    match sight.is_visible_from(world.tree, ModuleId(module)) {
+    match sight.is_visible_from(world.loaded, ModuleId(module)) {
         Ok(true) => out.push_str("sight 1 1\n"),
         Ok(false) => out.push_str("sight 0 0\n"),
-        Err(fault) => push_refused(out, fault),
+        Err(fault) => push_refused(out, Fault::from(fault)),
     }
 }
 
@@ -153,16 +153,18 @@ fn play_commands(
 ) -> Result<(), AllocError> {
     let names = tables.names;
     let text = tables.names_text(alloc)?;
-    let mut memory = Memory::new(alloc, tables)?;
-    match load(memory.lend()) {
-        Ok(told) => {
+    let crates = tables.crates(alloc)?;
+    let mut loaded = LoadedTables::new(alloc, BuildHasherDefault::new())?;
+    match loaded.load(alloc, tables.lend(crates.as_slice())) {
+        Ok(()) => {
             let world = World {
-                tree: &told.tree,
+                loaded: &loaded,
                 list: NameList::new(text.as_slice(), names),
             };
             answer_all(alloc, out, world, commands)
         }
-        Err(fault) => refuse_all(out, fault, commands),
+        Err(Failure::Refused(fault)) => refuse_all(out, fault, commands),
+        Err(Failure::Memory(e)) => Err(e),
     }
 }
 

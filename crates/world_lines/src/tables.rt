@@ -1,10 +1,12 @@
 // The tables of a world, as its lines tell them.
-use crate::fields::{edition, number, optional};
+use crate::fields::{number, optional};
 use crate::index_rows::IndexRows;
 use crate::lines::Line;
 use hir_def::builtin_type::BuiltinType;
-use hir_def::{BlockId, CrateId, Edition, ModuleId, Name};
-use index_tables::load::NAMES;
+use hir_def::edition::Edition;
+use hir_def::{BlockId, CrateId, ModuleId, Name};
+use index_tables::loaded_tables::{IndexTables, NAMES};
+use nameres::tree_rows;
 use nameres::tree_rows::{BlockRow, CrateRow, ModuleRow};
 use std::alloc::{AllocError, Global};
 use std::fmt::Write;
@@ -91,7 +93,7 @@ impl Tables {
     pub(crate) fn read(&mut self, alloc: Global, line: Line) -> Result<bool, AllocError> {
         let rest = line.rest();
         match line.verb() {
-            "crate" => match edition(rest) {
+            "crate" => match rest.parse::<Edition>().ok() {
                 Some(edition) => self.editions.push(edition)?,
                 None => return Ok(false),
             },
@@ -131,6 +133,27 @@ impl Tables {
             }
         }
         Ok(rows)
+    }
+
+    /// The tables, lent to an index, with the rows of the crates.
+    pub(crate) fn lend<'a>(&'a self, crates: &'a [CrateRow]) -> IndexTables<'a> {
+        let rows = &self.index;
+        IndexTables {
+            tree: tree_rows::Tables {
+                modules: self.modules.as_slice(),
+                blocks: self.blocks.as_slice(),
+                crates,
+            },
+            names: self.names,
+            enums: rows.enums,
+            macros: u32::try_from(rows.styles.len()).unwrap_or(u32::MAX),
+            extern_prelude: rows.extern_prelude.as_slice(),
+            macro_use: rows.macro_use.as_slice(),
+            preludes: rows.preludes.as_slice(),
+            legacy: rows.legacy.as_slice(),
+            variants: rows.variants.as_slice(),
+            styles: rows.styles.as_slice(),
+        }
     }
 
     /// The bytes of the name list.

@@ -1,5 +1,5 @@
 use Rattle.std.proofs.Common.{◌≡◌}
-use Rattle.entries.specs.Sights.{inside}
+use Rattle.entries.specs.Visibilities.{inside}
 use Rattle.entries.proofs.visibility.is_inside.Given as goal
 
 abbrev pub invariant-loop-target : goal.invariant-loop-target

@@ -1,5 +1,5 @@
 use Rattle.std.proofs.Common.{◌≡◌}
-use Rattle.entries.specs.Sights.{settled}
+use Rattle.entries.specs.Visibilities.{settled}
 use Rattle.entries.proofs.visibility.leave_blocks.Given as goal
 
 abbrev pub invariant-loop-outside : goal.invariant-loop-outside

@@ -1,7 +1,7 @@
 use Rattle.std.proofs.Common.{[], vec_items}
 use Rattle.path_text.specs.Lists.{name_lines}
 use Rattle.firmware.specs.declared.words.Word.{Word}
-use Rattle.firmware.proofs.AllRead.{read_more, read_all, first-bad}
+use Rattle.firmware.proofs.AllRead.{read_more, read_all, first_bad}
 use Rattle.firmware.proofs.path_words.read_paths.Goals as goal
 
 -- what a read past the end would give
@@ -18,7 +18,7 @@ pub returns-in-Err : goal.returns-in-Err
 unfolding blank
 returns-in-Err c =
     let ls = name_lines c.args.list.now in
-    first-bad ls c.args.words.now c.loop-word.word-index blank c.loop-word-test.true (vec_items c.loop-word.paths) c.loop-word.invariant c.in-Err.failure c.in-Err.ensures.exact c.unread_of.result c.unread_of.ensures
+    first_bad ls c.args.words.now c.loop-word.word-index blank c.loop-word-test.true (vec_items c.loop-word.paths) c.loop-word.invariant c.in-Err.failure c.in-Err.ensures.exact c.failure_of.result c.failure_of.ensures
 
 pub returns : goal.returns
 returns c =

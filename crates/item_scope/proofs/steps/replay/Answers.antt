@@ -1,5 +1,7 @@
-use Rattle.std.proofs.Common.{sym, subst}
-use Rattle.item_scope.specs.Places.{tests}
+use Rattle.std.proofs.Common.{◌≡◌, rules, sym, subst}
+use Rattle.std.proofs.lemmas.Iterator.{YieldsList-from_slice}
+use Rattle.std.proofs.lemmas.Iterator.Consumers.{fold_from_yields_List}
+use Rattle.item_scope.specs.Places.{tests, stepped, replayed}
 use Rattle.item_scope.specs.Shadowing.{Shadows}
 use Rattle.item_scope.proofs.Shadowed.{shadows}
 use Rattle.item_scope.proofs.steps.replay.Goals as goal
@@ -7,4 +9,8 @@ use Rattle.item_scope.proofs.steps.replay.Goals as goal
 pub returns-clause-shadows : goal.returns-clause-shadows
 returns-clause-shadows g c =
     let t = tests g.Def.PartialEq.eq g.Import.ImportKind.globs g.Import.PartialEq.eq in
-    subst (Shadows t.glob c.args.place c.args.came.now) (sym c.step_each.ensures) (shadows t c.args.place c.args.came.now)
+    let p = c.args.place in
+    let ns = c.args.came.now in
+    let is : c.fold.result ≡ replayed t p ns =
+    fold_from_yields_List _ (λ q n. (stepped t q n).place) p c.fold.result c.fold.ensures.ran (YieldsList-from_slice ns cc) (λ a x b q k. search rules) in
+    subst (Shadows t.glob p ns) (sym is) (shadows t p ns)

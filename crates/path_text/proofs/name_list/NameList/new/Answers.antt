@@ -11,7 +11,7 @@ returns-in-Some c =
     record {
       answers = ap refused_at e;
       accepted = (λ t. absurd (false≢true t), λ f. absurd (unfit bytes _ _ e f));
-      told = (c.in-Some.line, refl, first-bad bytes _ _ e);
+      refused = (c.in-Some.line, refl, first-bad bytes _ _ e);
       whole = tt;
     }
 
@@ -19,4 +19,4 @@ pub returns-in-None : goal.returns-in-None
 returns-in-None c =
     let e = sym c.in-None.ensures in
     let f = fits c.args.bytes.now c.args.names e in
-    record { answers = (e, refl, refl); accepted = (λ t. f, λ g. refl); told = tt; whole = all-names _ _ f }
+    record { answers = (e, refl, refl); accepted = (λ t. f, λ g. refl); refused = tt; whole = all-names _ _ f }

@@ -1,2 +1,0 @@
-pub mod Viewers
-pub mod Accounts
