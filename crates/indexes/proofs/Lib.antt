@@ -1,0 +1,5 @@
+pub mod Stored
+pub mod Tables
+pub mod Ledgers
+pub mod Fresh
+pub mod Taken

@@ -1,0 +1,7 @@
+pub mod Fitting
+pub mod Ledger
+pub mod RowIndexes
+pub mod Spaces
+pub mod Storing
+pub mod Table
+pub mod Told
