@@ -1,0 +1,10 @@
+pub mod Abroad
+pub mod Accepted
+pub mod Climbing
+pub mod Existing
+pub mod Going
+pub mod Judged
+pub mod Likewise
+pub mod Ordered
+pub mod Showing
+pub mod Walking

@@ -1,0 +1,14 @@
+pub mod Alike
+pub mod Answers
+pub mod Elsewhere
+pub mod Existing
+pub mod Judges
+pub mod Order
+pub mod Outward
+pub mod Questions
+pub mod Shown
+pub mod Singles
+pub mod SmallTree
+pub mod Sources
+pub mod Starts
+pub mod Walks

@@ -1,0 +1,99 @@
+// What a path was resolved to, and how two answers are merged.
+ghost use Rattle.std.specs.Prelude.{◌≡◌};
+ghost use Rattle.path_resolution.specs.Answers.{no_flags, empty, merged, larger, newer_if_no, joined};
+
+use entries::per_ns::PerNs;
+
+/// Whether the answer stays as it is when more items come.
+#[derive(Clone, Copy, PartialEq, Eq, Hash, Debug)]
+pub enum ReachedFixedPoint {
+    Yes,
+    No,
+}
+
+/// What the names before the last passed.
+#[derive(Clone, Copy, PartialEq, Eq, Hash, Debug)]
+pub struct ResolvePathResultPrefixInfo {
+    /// A further name was asked in another crate.
+    pub differing_crate: bool,
+    /// The last name is a variant of the enum that the names before it stand for.
+    pub enum_variant: bool,
+}
+
+#[derive(Clone, Copy, PartialEq, Eq, Hash, Debug)]
+pub struct ResolvePathResult {
+    pub resolved_def: PerNs,
+    /// The index in the path of the first name that was not resolved, since the type before it is no module and has no such
+    /// variant; none where all names were.
+    pub segment_index: Option<usize>,
+    pub reached_fixedpoint: ReachedFixedPoint,
+    pub prefix_info: ResolvePathResultPrefixInfo,
+}
+
+impl ReachedFixedPoint {
+    // The newer status, if this one is No.
+    fn or(self, newer: ReachedFixedPoint) -> ReachedFixedPoint
+        ensures { result ≡ newer_if_no self newer }
+    {
+        match self {
+            ReachedFixedPoint::Yes => self,
+            ReachedFixedPoint::No => newer,
+        }
+    }
+}
+
+impl ResolvePathResultPrefixInfo {
+    pub fn none() -> ResolvePathResultPrefixInfo
+        ensures { result ≡ no_flags }
+    {
+        ResolvePathResultPrefixInfo {
+            differing_crate: false,
+            enum_variant: false,
+        }
+    }
+
+    // Flags of answers are joined here alone.
+    fn join(self, newer: ResolvePathResultPrefixInfo) -> ResolvePathResultPrefixInfo
+        ensures { result ≡ joined self newer }
+    {
+        ResolvePathResultPrefixInfo {
+            differing_crate: self.differing_crate || newer.differing_crate,
+            enum_variant: self.enum_variant || newer.enum_variant,
+        }
+    }
+}
+
+fn larger_index(older: Option<usize>, newer: Option<usize>) -> Option<usize>
+    ensures { result ≡ larger older newer }
+{
+    match (older, newer) {
+        (Some(older), Some(newer)) => Some(older.max(newer)),
+        _ => older.or(newer),
+    }
+}
+
+impl ResolvePathResult {
+    /// No entries, no index and no flags.
+    pub fn empty(reached_fixedpoint: ReachedFixedPoint) -> ResolvePathResult
+        ensures { result ≡ empty reached_fixedpoint }
+    {
+        ResolvePathResult {
+            resolved_def: PerNs::none(),
+            segment_index: None,
+            reached_fixedpoint,
+            prefix_info: ResolvePathResultPrefixInfo::none(),
+        }
+    }
+
+    /// This answer, and where it leaves something open the newer one.
+    pub fn merge(self, newer: ResolvePathResult) -> ResolvePathResult
+        ensures { result ≡ merged self newer }
+    {
+        ResolvePathResult {
+            resolved_def: self.resolved_def.or(newer.resolved_def),
+            segment_index: larger_index(self.segment_index, newer.segment_index),
+            reached_fixedpoint: self.reached_fixedpoint.or(newer.reached_fixedpoint),
+            prefix_info: self.prefix_info.join(newer.prefix_info),
+        }
+    }
+}

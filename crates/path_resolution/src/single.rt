@@ -1,0 +1,261 @@
+// A path asked in one module, and in the preludes of a crate, without what is asked further outward.
+ghost use Rattle.std.specs.Prelude.{◌≡◌};
+ghost use Rattle.path_resolution.specs.Sources.{from_extern_prelude};
+ghost use Rattle.path_resolution.specs.Singles.{goes_on, as_2015, shadow_of, present, first_of, preludes_first, settles, named_by, single_named, super_asked, self_asked, root_asked, single_of, preludes_of};
+
+use crate::answer::{ReachedFixedPoint, ResolvePathResult};
+use crate::question::{BuiltinShadowMode, Question, ResolveMode};
+use crate::remaining_segments::resolve_remaining_segments;
+use crate::sources::{
+    resolve_name_in_all_preludes, resolve_name_in_crate_root_or_extern_prelude,
+    resolve_name_in_extern_prelude, resolve_name_in_module,
+};
+use crate::starts::{begin, map_of, start_at, super_of};
+use entries::per_ns::PerNs;
+use hir_def::edition::Edition;
+use hir_def::{CrateId, ModuleId, Name};
+use item_scope::index::Index;
+use path_text::mod_path::PathKind;
+
+/// The answer of one module, and whether no other is asked any more.
+#[derive(Clone, Copy)]
+pub(crate) struct Asked {
+    pub answer: ResolvePathResult,
+    pub is_final: bool,
+}
+
+impl Asked {
+    fn goes_on(answer: ResolvePathResult) -> Asked
+        ensures { result ≡ goes_on answer }
+    {
+        Asked {
+            answer,
+            is_final: false,
+        }
+    }
+}
+
+// Plain imports and `::` paths of edition 2015 begin in the crate's root.
+fn is_as_2015<I: Index>(index: &I, question: Question, kind: PathKind, m: ModuleId) -> bool
+    ensures { result ≡ as_2015 (I.view index.now) question kind m }
+{
+    index.edition(index.krate(m)) == Edition::Edition2015
+        && (kind == PathKind::Abs || question.mode == ResolveMode::Import)
+}
+
+fn present(entries: PerNs) -> Option<PerNs>
+    ensures { result ≡ present entries }
+{
+    if entries.is_none() {
+        None
+    } else {
+        Some(entries)
+    }
+}
+
+// The first name of a `::` path: a crate of the extern prelude, if there is one of that name.
+fn resolve_path_abs<I: Index>(index: &I, m: ModuleId, name: Name) -> Option<PerNs>
+    ensures { let v = I.view index.now in result ≡ present (from_extern_prelude v m name) }
+{
+    present(resolve_name_in_extern_prelude(index, m, name))
+}
+
+// The shadow mode counts for paths of one name.
+fn shadow_of(shadow: BuiltinShadowMode, further: &[Name]) -> BuiltinShadowMode
+    ensures { result ≡ shadow_of shadow further.now }
+{
+    match further {
+        [] => shadow,
+        _ => BuiltinShadowMode::Module,
+    }
+}
+
+// The first name's entries; none where `::` has no such crate.
+fn first_of<I: Index>(
+    index: &I,
+    question: Question,
+    kind: PathKind,
+    m: ModuleId,
+    name: Name,
+    further: &[Name],
+) -> Option<PerNs>
+    ensures { result ≡ first_of (I.view index.now) question kind m name further.now }
+{
+    if is_as_2015(index, question, kind, m) {
+        return Some(resolve_name_in_crate_root_or_extern_prelude(index, m, name));
+    }
+    match kind {
+        PathKind::Abs => resolve_path_abs(index, m, name),
+        _ => {
+            let shadow = shadow_of(question.shadow, further);
+            Some(resolve_name_in_module(index, question, shadow, m, name))
+        }
+    }
+}
+
+// The same in the crate's preludes alone.
+fn preludes_first<I: Index>(
+    index: &I,
+    question: Question,
+    kind: PathKind,
+    m: ModuleId,
+    name: Name,
+) -> Option<PerNs>
+    ensures { result ≡ preludes_first (I.view index.now) question kind m name }
+{
+    if is_as_2015(index, question, kind, m) {
+        return Some(resolve_name_in_extern_prelude(index, m, name));
+    }
+    match kind {
+        PathKind::Abs => resolve_path_abs(index, m, name),
+        _ => Some(resolve_name_in_all_preludes(index, question.expected_macro_subns, m, name)),
+    }
+}
+
+// The answer where the first name of a path asked in `m` has those entries.
+fn resolve_further<I: Index>(
+    index: &I,
+    judge: ModuleId,
+    m: ModuleId,
+    first: Option<PerNs>,
+    further: &[Name],
+) -> ResolvePathResult
+    ensures { result ≡ named_by (I.view index.now) judge m first further.now }
+{
+    match first {
+        Some(entries) => {
+            let start = begin(index, m, entries);
+            resolve_remaining_segments(index, judge, start, 1, further)
+        }
+        None => ResolvePathResult::empty(ReachedFixedPoint::No),
+    }
+}
+
+// A plain path of several names asks no further once its first name has a type.
+fn settles(kind: PathKind, first: Option<PerNs>, further: &[Name]) -> bool
+    ensures { result ≡ settles kind first further.now }
+{
+    match (kind, first, further) {
+        (PathKind::Plain, Some(entries), [_, ..]) => entries.types.is_some(),
+        _ => false,
+    }
+}
+
+// A plain or a `::` path.
+fn single_named<I: Index>(
+    index: &I,
+    question: Question,
+    kind: PathKind,
+    names: &[Name],
+    m: ModuleId,
+) -> Asked
+    ensures { result ≡ single_named (I.view index.now) question kind names.now m }
+{
+    match names {
+        [] => Asked::goes_on(ResolvePathResult::empty(ReachedFixedPoint::Yes)),
+        [name, further @ ..] => {
+            let first = first_of(index, question, kind, m, *name, further);
+            Asked {
+                answer: resolve_further(index, question.original_module, m, first, further),
+                is_final: settles(kind, first, further),
+            }
+        }
+    }
+}
+
+// A `self` path in a module that is no block's root. In a module of a block the crate's preludes are asked last and have
+// nothing for it.
+fn self_asked<I: Index>(
+    index: &I,
+    judge: ModuleId,
+    names: &[Name],
+    at: ModuleId,
+) -> ResolvePathResult
+    ensures { result ≡ self_asked (I.view index.now) judge names.now at }
+{
+    let start = start_at(index, at, at);
+    let answer = resolve_remaining_segments(index, judge, start, 0, names);
+    if index.block(at).is_some() {
+        answer.merge(ResolvePathResult::empty(ReachedFixedPoint::Yes))
+    } else {
+        answer
+    }
+}
+
+// What `super` found in `m`: a module of the same map, of another one, or none.
+fn super_asked<I: Index>(
+    index: &I,
+    judge: ModuleId,
+    names: &[Name],
+    m: ModuleId,
+    found: Option<ModuleId>,
+) -> ResolvePathResult
+    ensures { result ≡ super_asked (I.view index.now) judge names.now m found }
+{
+    match found {
+        Some(at) if map_of(index, at) == map_of(index, m) => {
+            let start = start_at(index, m, at);
+            resolve_remaining_segments(index, judge, start, 0, names)
+        }
+        Some(at) => self_asked(index, judge, names, at),
+        None => ResolvePathResult::empty(ReachedFixedPoint::Yes),
+    }
+}
+
+fn root_asked<I: Index>(
+    index: &I,
+    judge: ModuleId,
+    names: &[Name],
+    m: ModuleId,
+    krate: CrateId,
+) -> ResolvePathResult
+    ensures { result ≡ root_asked (I.view index.now) judge names.now m krate }
+{
+    let start = start_at(index, m, index.crate_root(krate));
+    resolve_remaining_segments(index, judge, start, 0, names)
+}
+
+/// The answer of the module `m` alone.
+#[tactic(auto, unfolding(crate::specs::Singles::single_of))]
+pub(crate) fn resolve_path_fp_with_macro_single<I: Index>(
+    index: &I,
+    question: Question,
+    kind: PathKind,
+    names: &[Name],
+    m: ModuleId,
+) -> Asked
+    ensures { result ≡ single_of (I.view index.now) question kind names.now m }
+{
+    let judge = question.original_module;
+    match kind {
+        PathKind::Plain | PathKind::Abs => single_named(index, question, kind, names, m),
+        PathKind::Crate => Asked::goes_on(root_asked(index, judge, names, m, index.krate(m))),
+        PathKind::DollarCrate(krate) => {
+            Asked::goes_on(root_asked(index, judge, names, m, krate))
+        }
+        PathKind::Super(level) => {
+            let found = super_of(index, level, m);
+            Asked::goes_on(super_asked(index, judge, names, m, found))
+        }
+    }
+}
+
+/// The answer of the preludes of the crate of `m`, a block's root, which also judges who may see.
+#[tactic(auto, unfolding(crate::specs::Singles::preludes_of))]
+pub(crate) fn resolve_path_fp_in_all_preludes<I: Index>(
+    index: &I,
+    question: Question,
+    kind: PathKind,
+    names: &[Name],
+    m: ModuleId,
+) -> ResolvePathResult
+    ensures { result ≡ preludes_of (I.view index.now) question kind names.now m }
+{
+    match (kind, names) {
+        (PathKind::Plain | PathKind::Abs, [name, further @ ..]) => {
+            let first = preludes_first(index, question, kind, m, *name);
+            resolve_further(index, m, m, first, further)
+        }
+        _ => ResolvePathResult::empty(ReachedFixedPoint::Yes),
+    }
+}
