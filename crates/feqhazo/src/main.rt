@@ -1,64 +1,97 @@
-// feqhazo: reads a firmware tree and prints which modules may see each of its items, and what its paths are read as.
+// feqhazo: reads firmware trees and prints which modules may see each of their items, and what their paths are read as.
 #![tactic(auto)]
 
-use firmware::examine::{Wrote, examine};
-use firmware::report::Form;
+use anyhow::anyhow;
+use command_line::{Format, Options, read_options};
+use reports::files::{File, ReportError, report_files};
+use reports::report::{Form, Style};
+use std::io::{BufWriter, Read};
 use std::process::ExitCode;
 use std::{env, fs, io};
 
-const USAGE: &str = "usage: feqhazo [--lines] FILE
-  reads a firmware tree with its items and paths from FILE, and prints which modules may see each item and what each
-  path was read as
-  --lines  one line per item and path, for programs";
-
-#[derive(Drop)]
-struct Job {
-    path: String,
-    form: Form,
+fn style_of(options: &Options) -> Style {
+    let form = match options.format {
+        Format::Text => Form::Text,
+        Format::Lines => Form::Lines,
+        Format::Json => Form::Json,
+    };
+    Style {
+        form,
+        all: options.all,
+        progress: options.progress,
+    }
 }
 
-fn read_job(rt: &HostRuntime) -> io::Result<Option<Job>> {
-    let mut form = Form::ForPeople;
-    let mut path = None;
-    for word in env::args(rt)?.skip(1) {
-        if word.as_str() == "--lines" {
-            form = Form::ForPrograms;
-        } else if path.is_none() && !word.as_str().starts_with('-') {
-            path = Some(word);
-        } else {
-            return Ok(None);
-        }
+fn read_input(rt: &HostRuntime) -> io::Result<Vec<u8>> {
+    let mut text = Vec::new(rt.alloc());
+    rt.stdin().read_to_end(&mut text)?;
+    Ok(text)
+}
+
+fn read_file<'a>(rt: &HostRuntime, path: &'a str) -> anyhow::Result<File<'a>> {
+    let text = if path == "-" {
+        read_input(rt)
+    } else {
+        fs::read(rt, path)
+    };
+    match text {
+        Ok(text) => Ok(File { path, text }),
+        Err(e) => Err(anyhow!("{path}: {e}")),
     }
-    match path {
-        Some(path) => Ok(Some(Job { path, form })),
-        None => Ok(None),
+}
+
+fn read_files<'a>(rt: &HostRuntime, paths: &[&'a str]) -> anyhow::Result<Vec<File<'a>>> {
+    let mut files = Vec::new(rt.alloc());
+    for path in paths {
+        files.push(read_file(rt, *path)?)?;
+    }
+    Ok(files)
+}
+
+// A reader that goes away ends the program quietly.
+fn tell(rt: &HostRuntime, error: ReportError) -> io::Result<ExitCode> {
+    match error {
+        ReportError::Refused(located) => rt.eprint(located)?,
+        ReportError::Memory(_) => rt.eprintln("feqhazo: out of memory")?,
+        ReportError::Write(e) if e.kind() == io::ErrorKind::BrokenPipe => {
+            return Ok(ExitCode::SUCCESS);
+        }
+        ReportError::Write(e) => eprintln!(rt; "feqhazo: {e}")?,
+    }
+    Ok(ExitCode::FAILURE)
+}
+
+fn report(rt: &HostRuntime, options: &Options) -> anyhow::Result<ExitCode> {
+    let files = read_files(rt, options.files.as_slice())?;
+    let mut out = BufWriter::new(rt.alloc(), io::writer(rt))?;
+    let mut progress = rt.stderr();
+    match report_files(
+        rt.alloc(),
+        &mut out,
+        &mut progress,
+        files.as_slice(),
+        style_of(options),
+    ) {
+        Ok(()) => Ok(ExitCode::SUCCESS),
+        Err(error) => Ok(tell(rt, error)?),
     }
 }
 
 fn main(rt: HostRuntime) -> io::Result<ExitCode> {
-    let Some(job) = read_job(&rt)? else {
-        rt.eprintln(USAGE)?;
-        return Ok(ExitCode::FAILURE);
-    };
-    let path = job.path.as_str();
-    let text = match fs::read(&rt, path) {
-        Ok(text) => text,
-        Err(e) => {
-            eprintln!(rt; "{path}: {e}")?;
-            return Ok(ExitCode::FAILURE);
+    let words: Vec<String> = env::args(&rt)?.collect(rt.alloc())?;
+    let options = match read_options(rt.alloc(), words.as_slice()) {
+        Ok(options) => options,
+        Err(error) => {
+            error.print(&rt)?;
+            let status = if error.use_stderr() { 2 } else { 0 };
+            return Ok(ExitCode::from(status));
         }
     };
-    let mut out = String::new(rt.alloc());
-    match examine(rt.alloc(), path, text.as_slice(), job.form, &mut out) {
-        Ok(Wrote::Report) => rt.print(out.as_str())?,
-        Ok(Wrote::Complaint) => {
-            rt.eprint(out.as_str())?;
-            return Ok(ExitCode::FAILURE);
-        }
-        Err(_) => {
-            rt.eprintln("feqhazo: out of memory")?;
-            return Ok(ExitCode::FAILURE);
+    match report(&rt, &options) {
+        Ok(status) => Ok(status),
+        Err(error) => {
+            rt.eprintln(error)?;
+            Ok(ExitCode::FAILURE)
         }
     }
-    Ok(ExitCode::SUCCESS)
 }

@@ -1,2 +1,2 @@
-pub mod Words
 pub mod Paths
+pub mod Surveys

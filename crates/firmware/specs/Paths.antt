@@ -1,14 +1,18 @@
 -- What the paths of a file are read as, and where a bad one is told.
-use Rattle.std.specs.Prelude.{◌≡◌, ℕ, ◌+◌, ◌-◌, ◌^◌, min, List, [], ◌∷◌, take, Some, vec_items}
+use Rattle.std.specs.Prelude.{◌≡◌, ℕ, ◌+◌, ◌-◌, ◌^◌, min, List, [], ◌∷◌, take, Some, Result, MatchResult, vec_items}
+use Rattle.std.specs.Global.{Vec}
 use Rattle.std.specs.List.{slice_get}
 use Rattle.hir_def.specs.declared.fault.TextFault.{TextFault}
 use Rattle.hir_def.specs.declared.fault.TextFault.TheVariants.{TooManyNames, TooManySupers, BadLine, BadText, UnknownName}
 use Rattle.path_text.specs.declared.mod_path.ModPath.{ModPath}
-use Rattle.path_text.specs.Laws.{IsRead, Denies}
+use Rattle.path_text.specs.Laws.{IsRead, Denies, IsReadable}
+use Rattle.hir_def.specs.Faults.{IfRefused}
 use Rattle.hir_def.specs.declared.fault.Failure.{Failure}
 use Rattle.hir_def.specs.declared.fault.Failure.TheVariants.{Memory, Refused}
 use Rattle.firmware.specs.declared.complaint.Complaint.{Complaint}
-use Rattle.firmware.specs.declared.words.Word.{Word}
+use Rattle.firmware.specs.declared.trouble.Trouble.{Trouble}
+use Rattle.firmware.specs.declared.trouble.Trouble.TheVariants.{Text, Tree}
+use Rattle.source_text.specs.declared.words.Word.{Word}
 
 -- each path is the reading of its word
 abbrev pub AllRead : List (List ℕ) → List Word → List ModPath → Type 0
@@ -33,14 +37,15 @@ column_at column bytes = min (column + bytes) (2 ^ 64 - 1)
 abbrev pub TellsAt : Word → TextFault → Complaint → Type 0
 TellsAt w f c = (c.line ≡ w.line) × (c.column ≡ column_at w.column (byte_of f))
 
--- and want of memory as such
-abbrev pub Tells : Word → Failure TextFault → Failure Complaint → Type 0
+-- that is why a file is not taken; want of memory stays what it is
+abbrev pub Tells : Word → Failure TextFault → Failure Trouble → Type 0
 Tells w (Memory e) r = r ≡ Memory e
+Tells w (Refused f) (Refused (Text c)) = TellsAt w f c
+Tells w (Refused f) (Refused (Tree g)) = ⊥
 Tells w (Refused f) (Memory e) = ⊥
-Tells w (Refused f) (Refused c) = TellsAt w f c
 
 -- the first bad word, after words that were read, and where it is told
-pub record FirstBad (ls : List (List ℕ)) (words : List Word) (c : Complaint) : Type 0 where
+pub record FirstBad (ls : List (List ℕ)) (words : List Word) (t : Trouble) : Type 0 where
   pub number : ℕ
   pub read : List ModPath
   pub before : AllRead ls (take number words) read
@@ -48,4 +53,17 @@ pub record FirstBad (ls : List (List ℕ)) (words : List Word) (c : Complaint) :
   pub here : slice_get words number ≡ Some word
   pub fault : TextFault
   pub denied : Denies ls word.text.now fault
-  pub tells : TellsAt word fault c
+  pub tells : Tells word (Refused fault) (Refused t)
+
+-- all words are read, or the first bad one is told
+abbrev pub ReadsAll : List (List ℕ) → List Word → Result (Vec ModPath) (Failure Trouble) → Type 0
+ReadsAll ls words r = MatchResult r (λ v. AllRead ls words (vec_items v)) (IfRefused (FirstBad ls words))
+
+-- where memory was wanting: at a word that can be read, after words that were read
+pub record WantsAt (ls : List (List ℕ)) (words : List Word) : Type 0 where
+  pub number : ℕ
+  pub read : List ModPath
+  pub before : AllRead ls (take number words) read
+  pub word : Word
+  pub here : slice_get words number ≡ Some word
+  pub readable : IsReadable ls word.text.now

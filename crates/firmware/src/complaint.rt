@@ -1,11 +1,10 @@
-// What is wrong with a file, where, and what was expected there.
-ghost use Rattle.std.specs.Prelude.{◌≡◌};
-ghost use Rattle.hir_def.specs.declared.fault.Failure.TheVariants.{Refused};
+// What is wrong with a statement or a path of a file, where, and what was expected there.
+use source_text::words::Word;
+use thiserror::Error;
 
-use hir_def::fault::Failure;
-
-#[derive(Clone, Copy, PartialEq, Eq, Debug)]
-pub(crate) struct Complaint {
+#[derive(Clone, Copy, PartialEq, Eq, Debug, Error)]
+#[error("line {line}, byte {column}: {problem}; expected {expected}")]
+pub struct Complaint {
     /// Lines count from 1.
     pub line: usize,
     /// Columns count bytes from 0.
@@ -14,10 +13,14 @@ pub(crate) struct Complaint {
     pub expected: &'static str,
 }
 
-impl From<Complaint> for Failure<Complaint> {
-    ghost from_gives = { λ e r. r ≡ Refused e };
-
-    fn from(e: Complaint) -> Failure<Complaint> {
-        Failure::Refused(e)
+impl Complaint {
+    /// What is wrong with a word.
+    pub(crate) fn at(word: Word, problem: &'static str, expected: &'static str) -> Complaint {
+        Complaint {
+            line: word.line,
+            column: word.column,
+            problem,
+            expected,
+        }
     }
 }

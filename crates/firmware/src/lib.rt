@@ -1,10 +1,10 @@
-// A firmware tree as a text file, and the report on who may see its items and on its paths.
+// A firmware tree as a text file: read by statements, and taken whole or not at all.
 #![tactic(auto)]
 
-mod complaint;
-pub mod examine;
+pub mod complaint;
 mod path_words;
-mod reader;
-pub mod report;
+pub mod reader;
 mod statement;
+pub mod survey;
+pub mod trouble;
 mod words;

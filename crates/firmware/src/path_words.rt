@@ -1,15 +1,14 @@
 // The paths of a file, read by its name list.
-ghost use Rattle.std.specs.Prelude.{MatchResult};
-ghost use Rattle.hir_def.specs.Faults.{IfRefused};
-ghost use Rattle.path_text.specs.Lists.{name_lines};
-ghost use Rattle.firmware.specs.Paths.{AllRead, FirstBad, Tells, TellsAt};
+ghost use Rattle.hir_def.specs.Faults.{OnMemory};
+ghost use Rattle.firmware.specs.Paths.{ReadsAll, Tells, TellsAt, WantsAt};
 
 use crate::complaint::Complaint;
-use crate::words::Word;
+use crate::trouble::Trouble;
 use hir_def::fault::{Failure, TextFault};
 use path_text::mod_path::ModPath;
 use path_text::name_list::NameList;
 use path_text::read::read_path;
+use source_text::words::Word;
 use std::alloc::Global;
 
 // What is wrong with a path, at the byte that the refusal tells. Counts tell no byte, and then it is the first; a line of the
@@ -48,11 +47,11 @@ fn complaint_of(word: Word, fault: TextFault) -> Complaint
     }
 }
 
-fn failure_of(word: Word, failure: Failure<TextFault>) -> Failure<Complaint>
+fn failure_of(word: Word, failure: Failure<TextFault>) -> Failure<Trouble>
     ensures { Tells word.entry failure result }
 {
     match failure {
-        Failure::Refused(fault) => Failure::Refused(complaint_of(word, fault)),
+        Failure::Refused(fault) => Failure::Refused(Trouble::Text(complaint_of(word, fault))),
         Failure::Memory(e) => Failure::Memory(e),
     }
 }
@@ -62,8 +61,9 @@ pub(crate) fn read_paths(
     alloc: Global,
     list: &NameList,
     words: &[Word],
-) -> Result<Vec<ModPath>, Failure<Complaint>>
-    ensures { MatchResult result (λ v. AllRead (name_lines list.now) words.now v.items) (IfRefused (FirstBad (name_lines list.now) words.now)) }
+) -> Result<Vec<ModPath>, Failure<Trouble>>
+    ensures reads { ReadsAll list.now words.now result }
+    ensures memory { OnMemory result (WantsAt list.now words.now) }
 {
     let mut paths = Vec::new(alloc);
     for word in words.iter() {

@@ -1,21 +1,24 @@
 // Reads a firmware file into the tables of its module tree and the list of its items.
-ghost use Rattle.std.specs.Prelude.{◌≤◌, length};
-
 use crate::complaint::Complaint;
 use crate::statement::{RawVisibility, Statement};
-use crate::words::{Word, Words};
+use crate::trouble::Trouble;
+use crate::words::StatementWords;
+use bstr::ByteSlice;
 use entries::visibility::{Visibility, VisibilityExplicitness};
 use hir_def::edition::Edition;
 use hir_def::fault::Failure;
 use hir_def::{BlockId, CrateId, ModuleId};
 use nameres::tree_rows::{BlockRow, CrateRow, ModuleRow};
+use path_text::name_list::NameList;
 use path_text::path_text::is_name;
-use paths::listing::Listing;
+use source_text::number::number;
+use source_text::words::Word;
 use std::alloc::Global;
 use std::collections::BTreeMap;
 
-#[derive(Clone, Copy)]
-pub(crate) struct Declared<'a> {
+/// An item as its statement declares it.
+#[derive(Clone, Copy, Debug)]
+pub struct Declared<'a> {
     pub name: &'a str,
     /// The full name of the module that the item stands in.
     pub module: &'a str,
@@ -30,16 +33,18 @@ struct Known {
     block: Option<BlockId>,
 }
 
+/// What the statements of a file declare.
 #[derive(Drop)]
-pub(crate) struct Firmware<'a> {
+pub struct Firmware<'a> {
     /// The modules' full names, by their numbers.
     pub names: Vec<&'a str>,
-    pub modules: Vec<ModuleRow>,
-    pub blocks: Vec<BlockRow>,
-    pub crates: Vec<CrateRow>,
+    pub(crate) modules: Vec<ModuleRow>,
+    pub(crate) blocks: Vec<BlockRow>,
+    pub(crate) crates: Vec<CrateRow>,
     pub items: Vec<Declared<'a>>,
-    pub paths: Vec<Word<'a>>,
-    pub list: Listing<'a>,
+    pub(crate) paths: Vec<Word<'a>>,
+    /// The names that the file declares, after the built-in ones.
+    pub list: NameList<'a>,
     by_name: BTreeMap<&'a [u8], Known>,
 }
 
@@ -50,7 +55,7 @@ const NAME: &str =
 
 fn name_of<'a>(word: Word<'a>) -> Result<&'a str, Complaint> {
     if !is_name(word.text) {
-        return Err(word.complaint("this is no name", NAME));
+        return Err(Complaint::at(word, "this is no name", NAME));
     }
     text_of(word)
 }
@@ -58,79 +63,47 @@ fn name_of<'a>(word: Word<'a>) -> Result<&'a str, Complaint> {
 fn text_of<'a>(word: Word<'a>) -> Result<&'a str, Complaint> {
     match std::str::from_utf8(word.text) {
         Ok(text) => Ok(text),
-        Err(_) => Err(word.complaint("these bytes are no text", "text in UTF-8")),
+        Err(_) => Err(Complaint::at(word, "these bytes are no text", "text in UTF-8")),
     }
 }
 
 // A full name as the module before its last `::` and the name after it.
 fn split<'a>(word: Word<'a>) -> Result<(Word<'a>, Word<'a>), Complaint> {
-    for i in (1..word.text.len()).rev() {
-        if word.text[i - 1] == b':' && word.text[i] == b':' {
-            let outer = Word {
-                text: &word.text[0..i - 1],
-                line: word.line,
-                column: word.column,
-            };
-            let name = Word {
-                text: &word.text[i + 1..],
-                line: word.line,
-                column: word.column.saturating_add(i + 1),
-            };
-            return Ok((outer, name));
-        }
-    }
-    Err(word.complaint(
-        "this name has no `::`",
-        "a full name: the module around it, `::` and a name, as in `raid::layout`",
-    ))
+    let Some((outer, name)) = word.text.rsplit_once_str(b"::") else {
+        return Err(Complaint::at(
+            word,
+            "this name has no `::`",
+            "a full name: the module around it, `::` and a name, as in `raid::layout`",
+        ));
+    };
+    let outer_word = Word {
+        text: outer,
+        line: word.line,
+        column: word.column,
+    };
+    let name_word = Word {
+        text: name,
+        line: word.line,
+        column: word.column.saturating_add(outer.len() + 2),
+    };
+    Ok((outer_word, name_word))
 }
 
 // `#7` is the module of row 7, whether or not there is one.
 fn numbered(text: &[u8]) -> Option<u32> {
-    let [b'#', digits @ ..] = text else {
-        return None;
-    };
-    match std::str::from_utf8(digits) {
-        Ok(digits) => digits.parse::<u32>().ok(),
-        Err(_) => None,
-    }
+    let digits = text.strip_prefix(b"#")?;
+    number(std::str::from_utf8(digits).ok()?)
 }
 
-fn number(word: Word, count: usize) -> Result<u32, Complaint> {
+fn row_number(word: Word, count: usize) -> Result<u32, Complaint> {
     match u32::try_from(count) {
         Ok(n) => Ok(n),
-        Err(_) => Err(word.complaint("there are too many", "at most 4294967295 of a kind")),
-    }
-}
-
-// Where the line ends that begins at `from`: at its line feed, or at the end of the text.
-fn line_end(text: &[u8], from: usize) -> usize
-    ensures { (from ≤ result) × (from ≤ length text.now → result ≤ length text.now) }
-{
-    let mut at = from;
-    while at < text.len() && text[at] != b'\n' {
-        at += 1;
-    }
-    at
-}
-
-/// The line of that number, from 1, without its line feed; empty where there is none.
-pub(crate) fn line_of(text: &[u8], line: usize) -> &[u8] {
-    let mut at = 0usize;
-    for _ in 1..line {
-        if at < text.len() {
-            at = line_end(text, at).saturating_add(1);
-        }
-    }
-    if at < text.len() {
-        &text[at..line_end(text, at)]
-    } else {
-        &[]
+        Err(_) => Err(Complaint::at(word, "there are too many", "at most 4294967295 of a kind")),
     }
 }
 
 impl<'a> Firmware<'a> {
-    fn new(alloc: Global) -> Result<Firmware<'a>, Failure<Complaint>> {
+    fn new(alloc: Global) -> Result<Firmware<'a>, Failure<Trouble>> {
         Ok(Firmware {
             names: Vec::new(alloc),
             modules: Vec::new(alloc),
@@ -138,13 +111,13 @@ impl<'a> Firmware<'a> {
             crates: Vec::new(alloc),
             items: Vec::new(alloc),
             paths: Vec::new(alloc),
-            list: Listing::new(alloc)?,
+            list: NameList::built_in(alloc)?,
             by_name: BTreeMap::new(alloc),
         })
     }
 
     // The name of a statement, which the paths of the file may have.
-    fn list_name(&mut self, word: Word<'a>) -> Result<&'a str, Failure<Complaint>> {
+    fn list_name(&mut self, word: Word<'a>) -> Result<&'a str, Failure<Trouble>> {
         let name = name_of(word)?;
         self.list.add(word.text)?;
         Ok(name)
@@ -153,7 +126,7 @@ impl<'a> Firmware<'a> {
     fn known(&self, word: Word<'a>) -> Result<Known, Complaint> {
         match self.by_name.get(word.text) {
             Some(known) => Ok(*known),
-            None => Err(word.complaint("no module of this name is declared above", MODULE)),
+            None => Err(Complaint::at(word, "no module of this name is declared above", MODULE)),
         }
     }
 
@@ -163,14 +136,15 @@ impl<'a> Firmware<'a> {
         krate: CrateId,
         block: Option<BlockId>,
         parent: Option<ModuleId>,
-    ) -> Result<(), Failure<Complaint>> {
+    ) -> Result<(), Failure<Trouble>> {
         if self.by_name.contains_key(word.text) {
-            return Err(Failure::Refused(word.complaint(
+            return Err(Failure::from(Complaint::at(
+                word,
                 "a module of this name is declared above",
                 "a name of its own",
             )));
         }
-        let id = ModuleId(number(word, self.modules.len())?);
+        let id = ModuleId(row_number(word, self.modules.len())?);
         self.names.push(text_of(word)?)?;
         self.modules.push(ModuleRow {
             krate,
@@ -181,27 +155,27 @@ impl<'a> Firmware<'a> {
         Ok(())
     }
 
-    fn add_crate(&mut self, word: Word<'a>, edition: Edition) -> Result<(), Failure<Complaint>> {
+    fn add_crate(&mut self, word: Word<'a>, edition: Edition) -> Result<(), Failure<Trouble>> {
         self.list_name(word)?;
-        let krate = CrateId(number(word, self.crates.len())?);
-        let root = ModuleId(number(word, self.modules.len())?);
+        let krate = CrateId(row_number(word, self.crates.len())?);
+        let root = ModuleId(row_number(word, self.modules.len())?);
         self.crates.push(CrateRow { root, edition })?;
         self.add_module(word, krate, None, None)
     }
 
-    fn add_inner(&mut self, word: Word<'a>) -> Result<(), Failure<Complaint>> {
+    fn add_inner(&mut self, word: Word<'a>) -> Result<(), Failure<Trouble>> {
         let (outer, name) = split(word)?;
         self.list_name(name)?;
         let parent = self.known(outer)?;
         self.add_module(word, parent.krate, parent.block, Some(parent.id))
     }
 
-    fn add_block(&mut self, word: Word<'a>) -> Result<(), Failure<Complaint>> {
+    fn add_block(&mut self, word: Word<'a>) -> Result<(), Failure<Trouble>> {
         let (outer, name) = split(word)?;
         self.list_name(name)?;
         let outside = self.known(outer)?;
-        let block = BlockId(number(word, self.blocks.len())?);
-        let root = ModuleId(number(word, self.modules.len())?);
+        let block = BlockId(row_number(word, self.blocks.len())?);
+        let root = ModuleId(row_number(word, self.modules.len())?);
         self.blocks.push(BlockRow {
             root,
             outside: outside.id,
@@ -232,7 +206,7 @@ impl<'a> Firmware<'a> {
         word: Word<'a>,
         module: Word<'a>,
         raw: RawVisibility<'a>,
-    ) -> Result<(), Failure<Complaint>> {
+    ) -> Result<(), Failure<Trouble>> {
         let name = self.list_name(word)?;
         let at = self.known(module)?;
         let vis = self.visibility(at, raw)?;
@@ -244,7 +218,7 @@ impl<'a> Firmware<'a> {
         Ok(())
     }
 
-    fn add(&mut self, statement: Statement<'a>) -> Result<(), Failure<Complaint>> {
+    fn add(&mut self, statement: Statement<'a>) -> Result<(), Failure<Trouble>> {
         match statement {
             Statement::Crate(name, edition) => self.add_crate(name, edition),
             Statement::Module(name) => self.add_inner(name),
@@ -255,17 +229,12 @@ impl<'a> Firmware<'a> {
     }
 
     /// Reads a whole file, or says what is wrong with its first bad line.
-    pub(crate) fn read(alloc: Global, text: &'a [u8]) -> Result<Firmware<'a>, Failure<Complaint>> {
+    pub fn read(alloc: Global, text: &'a [u8]) -> Result<Firmware<'a>, Failure<Trouble>> {
         let mut firmware = Firmware::new(alloc)?;
-        let mut at = 0usize;
-        let mut line = 0usize;
-        while at < text.len() {
-            let end = line_end(text, at);
-            line = line.saturating_add(1);
-            if let Some(statement) = Statement::of(Words::of(&text[at..end], line))? {
+        for (i, line) in text.split(|b| *b == b'\n').enumerate() {
+            if let Some(statement) = Statement::of(StatementWords::of(line, i.saturating_add(1)))? {
                 firmware.add(statement)?;
             }
-            at = end.saturating_add(1);
         }
         Ok(firmware)
     }

@@ -1,7 +1,8 @@
 // One statement of a firmware file, as its words say it.
 use crate::complaint::Complaint;
-use crate::words::{Word, Words};
+use crate::words::StatementWords;
 use hir_def::edition::Edition;
+use source_text::words::Word;
 
 /// A visibility as it is written.
 #[derive(Clone, Copy)]
@@ -30,7 +31,7 @@ fn read_edition(word: Word) -> Result<Edition, Complaint> {
     std::str::from_utf8(word.text)
         .ok()
         .and_then(|text| text.parse::<Edition>().ok())
-        .ok_or(word.complaint("this is no edition", EDITION))
+        .ok_or(Complaint::at(word, "this is no edition", EDITION))
 }
 
 // `MODULE)`, after `pub(in`.
@@ -41,14 +42,15 @@ fn closed<'a>(word: Word<'a>) -> Result<Word<'a>, Complaint> {
             line: word.line,
             column: word.column,
         }),
-        _ => Err(word.complaint(
+        _ => Err(Complaint::at(
+            word,
             "the parenthesis is not closed",
             "a module and then `)`, as in `pub(in raid::layout)`",
         )),
     }
 }
 
-fn read_visibility<'a>(words: &mut Words<'a>) -> Result<RawVisibility<'a>, Complaint> {
+fn read_visibility<'a>(words: &mut StatementWords<'a>) -> Result<RawVisibility<'a>, Complaint> {
     let word = words.expect(VISIBILITY)?;
     if word.is("pub") {
         Ok(RawVisibility::Public)
@@ -60,15 +62,16 @@ fn read_visibility<'a>(words: &mut Words<'a>) -> Result<RawVisibility<'a>, Compl
         let module = words.expect("a module, as in `pub(in raid::layout)`")?;
         Ok(RawVisibility::In(closed(module)?))
     } else {
-        Err(word.complaint("this is no visibility", VISIBILITY))
+        Err(Complaint::at(word, "this is no visibility", VISIBILITY))
     }
 }
 
-fn read_item<'a>(words: &mut Words<'a>) -> Result<Statement<'a>, Complaint> {
+fn read_item<'a>(words: &mut StatementWords<'a>) -> Result<Statement<'a>, Complaint> {
     let name = words.expect("the item's name")?;
     let within = words.expect("`in` and the module that the item stands in")?;
     if !within.is("in") {
-        return Err(within.complaint(
+        return Err(Complaint::at(
+            within,
             "this word cannot stand here",
             "`in` and the module that the item stands in",
         ));
@@ -79,7 +82,7 @@ fn read_item<'a>(words: &mut Words<'a>) -> Result<Statement<'a>, Complaint> {
 
 impl<'a> Statement<'a> {
     /// The statement of a line, if it has one.
-    pub(crate) fn of(mut words: Words<'a>) -> Result<Option<Statement<'a>>, Complaint> {
+    pub(crate) fn of(mut words: StatementWords<'a>) -> Result<Option<Statement<'a>>, Complaint> {
         let Some(verb) = words.next_word() else {
             return Ok(None);
         };
@@ -95,7 +98,8 @@ impl<'a> Statement<'a> {
         } else if verb.is("path") {
             Statement::Path(words.expect("a path, as in `crate::layout::stripe_of`")?)
         } else {
-            return Err(verb.complaint(
+            return Err(Complaint::at(
+                verb,
                 "no statement begins so",
                 "`crate`, `module`, `block`, `item` or `path`",
             ));

@@ -1,106 +1,45 @@
-// The words of a line: runs of bytes without blanks, up to a comment.
-ghost use Rattle.std.specs.Prelude.{◌≡◌, ℕ, ◌+◌, ◌<◌, ◌≤◌, Bool, not, length};
-ghost use Rattle.firmware.specs.Words.{is_blank, Run};
-
+// The words of a statement, and what is wrong where one is missing or one too many.
 use crate::complaint::Complaint;
+use bstr::ByteSlice;
+use source_text::words::{Word, Words};
 
+/// What is left of a line before its comment, which begins with `//`.
 #[derive(Clone, Copy)]
-pub(crate) struct Word<'a> {
-    pub text: &'a [u8],
-    pub line: usize,
-    pub column: usize,
+pub(crate) struct StatementWords<'a> {
+    words: Words<'a>,
 }
 
-impl<'a> Word<'a> {
-    pub(crate) fn is(&self, text: &str) -> bool {
-        self.text == text.as_bytes()
-    }
-
-    pub(crate) fn complaint(&self, problem: &'static str, expected: &'static str) -> Complaint {
-        Complaint {
-            line: self.line,
-            column: self.column,
-            problem,
-            expected,
-        }
-    }
-}
-
-/// What is left of a line.
-#[derive(Clone, Copy)]
-pub(crate) struct Words<'a> {
-    text: &'a [u8],
-    line: usize,
-    at: usize,
-}
-
-fn is_blank(b: u8) -> bool
-    ensures { result ≡ is_blank b }
-{
-    b == b' ' || b == b'\t' || b == b'\r'
-}
-
-// Where the run of blanks, or of other bytes, that begins at `from` ends.
-fn run_end(line: &[u8], from: usize, blank: bool) -> usize
-    ensures { Run line.now blank from result }
-{
-    let mut at = from;
-    while at < line.len() && is_blank(line[at]) == blank {
-        at += 1;
-    }
-    at
-}
-
-// The part of a line before its comment, which begins with `//`.
-fn before_comment(line: &[u8]) -> &[u8] {
-    for i in 1..line.len() {
-        if line[i - 1] == b'/' && line[i] == b'/' {
-            return &line[0..i - 1];
-        }
-    }
-    line
-}
-
-impl<'a> Words<'a> {
+impl<'a> StatementWords<'a> {
     /// The words of a text that is the line of that number.
-    pub(crate) fn of(text: &'a [u8], line: usize) -> Words<'a> {
-        Words {
-            text: before_comment(text),
-            line,
-            at: 0,
+    pub(crate) fn of(text: &'a [u8], line: usize) -> StatementWords<'a> {
+        let code = match text.split_once_str(b"//") {
+            Some((code, _)) => code,
+            None => text,
+        };
+        StatementWords {
+            words: Words::of(code, line),
         }
     }
 
     pub(crate) fn next_word(&mut self) -> Option<Word<'a>> {
-        let column = run_end(self.text, self.at, true);
-        let end = run_end(self.text, column, false);
-        if end <= column || end > self.text.len() {
-            return None;
-        }
-        self.at = end;
-        Some(Word {
-            text: &self.text[column..end],
-            line: self.line,
-            column,
-        })
+        self.words.next_word()
     }
 
     /// The next word, where there has to be one.
     pub(crate) fn expect(&mut self, expected: &'static str) -> Result<Word<'a>, Complaint> {
-        match self.next_word() {
-            Some(word) => Ok(word),
-            None => Err(Complaint {
-                line: self.line,
-                column: self.text.len(),
-                problem: "the statement ends here",
-                expected,
-            }),
-        }
+        let (line, column) = self.words.end();
+        self.next_word().ok_or(Complaint {
+            line,
+            column,
+            problem: "the statement ends here",
+            expected,
+        })
     }
 
     pub(crate) fn expect_end(&mut self) -> Result<(), Complaint> {
         match self.next_word() {
-            Some(word) => Err(word.complaint(
+            Some(word) => Err(Complaint::at(
+                word,
                 "this word is one too many",
                 "the end of the line, or a comment that begins with `//`",
             )),

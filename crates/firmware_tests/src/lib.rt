@@ -1,13 +1,49 @@
-// Tests of the firmware reader and its report, on whole texts.
+// Tests of the firmware reader and its reports, on whole texts.
 #![tactic(auto)]
 
 #[cfg(test)]
 mod tests {
-    use firmware::examine::{Wrote, examine};
-    use firmware::report::Form;
+    use reports::files::{File, ReportError, report_files};
+    use reports::report::{Form, Style};
     use std::alloc::{AllocError, Global};
     use std::process::Abort;
     use std::test::Fail;
+
+    const FEW: Style = Style {
+        form: Form::Text,
+        all: false,
+        progress: false,
+    };
+
+    fn styled(form: Form) -> Style {
+        Style {
+            form,
+            all: false,
+            progress: false,
+        }
+    }
+
+    // What is written of files, or of what is wrong with them, and whether that is the report.
+    fn written(
+        alloc: Global,
+        texts: &[(&'static str, &[u8])],
+        style: Style,
+    ) -> Result<(String, bool), Fail> {
+        let mut files = Vec::new(alloc);
+        for (path, text) in texts {
+            files.push(File {
+                path: *path,
+                text: Vec::from_slice(alloc, *text)?,
+            })?;
+        }
+        let mut out = Vec::new(alloc);
+        let mut progress = Vec::new(alloc);
+        match report_files(alloc, &mut out, &mut progress, files.as_slice(), style) {
+            Ok(()) => Ok((String::from_utf8_lossy(alloc, out.as_slice())?, true)),
+            Err(ReportError::Refused(located)) => Ok((format!(in alloc; "{located}")?, false)),
+            Err(_) => Err(Fail::from("out of memory")),
+        }
+    }
 
     // What is written for a text, and whether that is the report.
     fn says(
@@ -17,9 +53,8 @@ mod tests {
         want: &str,
         is_report: bool,
     ) -> Result<(), Fail> {
-        let mut out = String::new(rt.alloc());
-        let wrote = examine(rt.alloc(), "f.feq", text, form, &mut out)?;
-        assert!(rt; matches!(wrote, Wrote::Report) == is_report);
+        let (out, reported) = written(rt.alloc(), &[("f.feq", text)], styled(form))?;
+        assert!(rt; reported == is_report);
         assert_eq!(rt; out.as_str(), want);
         Ok(())
     }
@@ -29,16 +64,16 @@ mod tests {
         text: &[u8],
         want: &str,
     ) -> Result<(), Fail> {
-        says(rt, text, Form::ForPeople, want, false)
+        says(rt, text, Form::Text, want, false)
     }
 
     #[test]
     fn an_empty_file(rt: HostRuntime) -> Result<(), Fail> {
-        says(&rt, b"", Form::ForPrograms, "account 0 0 0 0 0 0\n", true)?;
+        says(&rt, b"", Form::Lines, "account 0 0 0 0 0 0\n", true)?;
         says(
             &rt,
             b"// nothing\n\n \t\r\n",
-            Form::ForPrograms,
+            Form::Lines,
             "account 0 0 0 0 0 0\n",
             true,
         )
@@ -50,7 +85,7 @@ mod tests {
             b"crate a 2015\nmodule a::b\nblock a::c\nitem x in a::b private\nitem y in a::c private//last\nitem z in a pub(in #3)";
         let want =
             "seen x a::b 1 a::b\nseen y a::c 3 a a::b a::c\nrefused z a tree 6 0\naccount 3 3 4 2 1 0\n";
-        says(&rt, text, Form::ForPrograms, want, true)
+        says(&rt, text, Form::Lines, want, true)
     }
 
     #[test]
@@ -103,14 +138,14 @@ mod tests {
         says(
             &rt,
             text,
-            Form::ForPrograms,
+            Form::Lines,
             "seen u8 a 2 a a::b\nseen x a 2 a a::b\npath plain 0 20 21\npath super 0\npath super 1 20\npath super 2 10\npath crate 0\npath abs 0 19 20\naccount 2 2 4 0 0 6\n",
             true,
         )?;
         says(
             &rt,
             b"crate a 2021\npath crate::a\npath self::super::a\npath self\n",
-            Form::ForPeople,
+            Form::Text,
             "path crate::a\n    read as crate: a #19\npath super::a\n    read as super of level 1: a #19\npath self\n    read as super of level 0\n\naccount\n    items                  0\n    modules                1\n    pairs seen             0\n    pairs not seen         0\n    items refused          0\n    paths                  3\n",
             true,
         )
@@ -153,17 +188,87 @@ mod tests {
     fn sixty_five_names(rt: HostRuntime) -> Result<(), Fail> {
         let mut text = String::new(rt.alloc());
         push_names(&mut text, 64)?;
-        let mut out = String::new(rt.alloc());
-        let form = Form::ForPrograms;
-        let wrote = examine(rt.alloc(), "f.feq", text.as_bytes(), form, &mut out)?;
-        assert!(rt; matches!(wrote, Wrote::Report));
+        let lines = styled(Form::Lines);
+        let (_, reported) = written(rt.alloc(), &[("f.feq", text.as_bytes())], lines)?;
+        assert!(rt; reported);
         text.push_str("::a")?;
-        out.clear();
-        let wrote = examine(rt.alloc(), "f.feq", text.as_bytes(), form, &mut out)?;
-        assert!(rt; matches!(wrote, Wrote::Complaint));
+        let (out, reported) = written(rt.alloc(), &[("f.feq", text.as_bytes())], lines)?;
+        assert!(rt; !reported);
         assert!(rt;
             out.as_str()
                 .starts_with("f.feq:2:6: the path has more than 64 names\n")
+        );
+        Ok(())
+    }
+
+    #[test]
+    fn places_that_are_hard_to_show(rt: HostRuntime) -> Result<(), Fail> {
+        complains(
+            &rt,
+            b"crate a 2021\r\nitem \xe6\x97\xa5 \xff\x1b x\r\n",
+            "f.feq:2:10: this word cannot stand here\n    item \u{65e5} \\xff\\x1b x\n            ^\nexpected `in` and the module that the item stands in\n",
+        )?;
+        let mut text = String::from_str(rt.alloc(), "module ")?;
+        for _ in 0..40 {
+            text.push_str("a::b")?;
+        }
+        text.push_str(" wrong ")?;
+        for _ in 0..40 {
+            text.push_str("// a long comment ")?;
+        }
+        let (out, _) = written(rt.alloc(), &[("f.feq", text.as_bytes())], FEW)?;
+        assert_eq!(rt;
+            out.as_str(),
+            "f.feq:1:169: this word is one too many\n    ...::ba::ba::ba::ba::ba::ba::ba::ba::ba::ba::ba::ba::ba::ba::b wrong // a long comment // a long comment // a long comment // a long comment //...\n                                                                   ^\nexpected the end of the line, or a comment that begins with `//`\n"
+        );
+        Ok(())
+    }
+
+    #[test]
+    fn many_seers(rt: HostRuntime) -> Result<(), Fail> {
+        let mut text = String::from_str(rt.alloc(), "crate a 2021\ncrate b 2021\nmodule a::m\n")?;
+        for i in 0..21 {
+            write!(text, "module a::m::n{i}\n")?;
+        }
+        text.push_str(
+            "item x in a pub(crate)\nitem y in a::m private\nitem z in a::m::n0 private\nitem w in a pub\n",
+        )?;
+        let (out, _) = written(rt.alloc(), &[("f.feq", text.as_bytes())], FEW)?;
+        assert!(rt;
+            out.as_str().starts_with(
+                "x in a, pub(crate)\n    seen from all 23 modules of crate a\ny in a::m, private\n    seen from all 22 modules inside a::m\nz in a::m::n0, private\n    seen from 1 of 24: a::m::n0\nw in a, pub\n    seen from all 24 modules\n"
+            )
+        );
+        Ok(())
+    }
+
+    #[test]
+    fn json(rt: HostRuntime) -> Result<(), Fail> {
+        let text =
+            b"crate a 2021\nmodule a::b\nitem x in a::b private\nitem y in a pub(in #9)\npath self::super::b\n";
+        says(
+            &rt,
+            text,
+            Form::Json,
+            "{\"file\":\"f.feq\",\"items\":2,\"kind\":\"file\",\"modules\":2,\"paths\":1}\n{\"count\":1,\"item\":\"x\",\"kind\":\"item\",\"module\":\"a::b\",\"of\":\"a::b\",\"range\":\"inside 1\",\"seers\":null,\"visibility\":\"private\"}\n{\"item\":\"y\",\"kind\":\"refused\",\"layer\":\"tree\",\"module\":\"a\",\"number\":6,\"place\":0,\"visibility\":\"pub(in #9)\",\"why\":\"a module or a crate that the item's visibility names does not exist\"}\n{\"kind\":\"path\",\"level\":1,\"names\":[\"b\"],\"numbers\":[20],\"path\":\"super::b\",\"start\":\"super\"}\n{\"hidden\":1,\"items\":2,\"kind\":\"account\",\"modules\":2,\"paths\":1,\"refused\":1,\"seen\":1}\n",
+            true,
+        )
+    }
+
+    #[test]
+    fn several_files(rt: HostRuntime) -> Result<(), Fail> {
+        let lines = styled(Form::Lines);
+        let good: &[u8] = b"crate a 2021\nitem x in a pub\n";
+        let (out, _) = written(rt.alloc(), &[("f.feq", good), ("g.feq", b"")], lines)?;
+        assert_eq!(rt;
+            out.as_str(),
+            "file f.feq\nseen x a 1 a\naccount 1 1 1 0 0 0\nfile g.feq\naccount 0 0 0 0 0 0\n"
+        );
+        let (out, reported) = written(rt.alloc(), &[("f.feq", good), ("g.feq", b"crate")], lines)?;
+        assert!(rt; !reported);
+        assert!(rt;
+            out.as_str()
+                .starts_with("g.feq:1:6: the statement ends here\n")
         );
         Ok(())
     }

@@ -1,103 +1,70 @@
 -- The first line at fault: what the test of the lines finds, and what a list that fits is.
-use Rattle.std.proofs.Common.{◌≡◌, ℕ, suc, ◌+◌, ◌<◌, ◌≤◌, Bool, true, false, not, ◌||◌, ltb, leb, ◌⊎◌, List, [], ◌∷◌, length, get_or, Some, None, sym, refl, ap, ◌∙◌, subst, inl, inr, add-zero, zero-add, arith, MatchOption}
+use Rattle.std.proofs.Common.{◌≡◌, ℕ, ◌+◌, ◌<◌, ◌≤◌, true, false, not, ◌||◌, ltb, leb, List, [], ◌∷◌, length, get_or, Some, None, sym, refl, ap, ◌∙◌, inl, inr, zero-add, arith, MatchOption}
 use Rattle.std.proofs.lemmas.Slice.Eq.{bytes_eq-Decides}
-use Rattle.std.proofs.lemmas.List.{take_all}
 use Rattle.std.proofs.lemmas.Option.{slice_get-get_or, slice_get_past, MatchOption-at_none, MatchOption-at_some}
-use Rattle.std.proofs.lemmas.Bool.{cases_lt, cases_Bool, cond_both, both_ways, and_parts, and_cases, or_cases, or_parts, ltb-true, ltb-false, leb-true, leb-false, eqb-true, eq-eqb, not-false}
+use Rattle.std.proofs.lemmas.Bool.{cases_lt, cases_Bool, both_ways, and_parts, and_cases, or_cases, or_parts, ltb-true, ltb-false, leb-true, leb-false, eqb-true, eq-eqb, not-false}
 use Rattle.std.specs.List.{slice_get}
 use Rattle.std.specs.Str.{bytes_eq}
-use Rattle.path_text.specs.Lists.{lines_of, unfinished, builtin_line, good_line, bad_from, bad_line, Fits, AtFault, too_many, not-built-in, half-done, no_name, no-built-in, Never, FirstAt, names_of}
-use Rattle.path_text.proofs.Firsts.{FirstFrom, some≢none, at_once, later, from_start}
+use Rattle.hir_def.specs.declared.fault.TextFault.TheVariants.{BadLine}
+use Rattle.path_text.specs.Lists.{lines_of, unfinished, builtin_line, good_line, bad_from, bad_line, Fits, AtFault, too_many, not-built-in, half-done, no_name, no-built-in, Never, FirstAt, Misfit}
+use Rattle.path_text.proofs.First.{Below, below-next, From, here, on, whole}
 
--- the rule for the line of number i that stands at k
-abbrev Broken : List (List ℕ) → Bool → ℕ → ℕ → ℕ → Type 0
-Broken ls half n i k =
-    ((k < length ls) × ((n ≤ i) ⊎ ((i < 19) × (slice_get ls k ≡ Some (builtin_line i) → ⊥))))
-    ⊎ ((k ≡ length ls) × ((half ≡ true) ⊎ ((i < n) ⊎ (i < 19))))
+module _ (bs : List ℕ) (n : ℕ) where
+  abbrev Bad : ℕ → Type 0
+  Bad = AtFault bs n
 
-up : (l : List ℕ) (ls : List (List ℕ)) (half : Bool) (n i k : ℕ) → Broken ls half n i k → Broken (l ∷ ls) half n i (suc k)
-up l ls half n i k (inl (h, w)) = inl (omega arith, w)
-up l ls half n i k (inr (e, w)) = inr (ap suc e, w)
-
-down : (l : List ℕ) (ls : List (List ℕ)) (half : Bool) (n i k : ℕ) → Broken (l ∷ ls) half n i (suc k) → Broken ls half n i k
-down l ls half n i k (inl (h, w)) = inl (omega arith, w)
-down l ls half n i k (inr (e, w)) = inr (omega arith, w)
-
-one_more : (j k : ℕ) → j + suc k ≡ (j + 1) + k
-one_more j k = omega arith
-
-module _ (l : List ℕ) (ls : List (List ℕ)) (half : Bool) (n i : ℕ) where
-  bad-here : good_line n i l ≡ false → Broken (l ∷ ls) half n i 0
-  bad-here e =
+  -- a finished line
+  bad-line : (i : ℕ) (l : List ℕ) → slice_get (lines_of bs) i ≡ Some l → i < length (lines_of bs) → good_line n i l ≡ false → Bad i
+  bad-line i l at h e =
       elim (and_cases (ltb i n) _ e) [
-        | inl f ↦ inl (omega arith, inl (ltb-false i n f))
+        | inl f ↦ too_many h (ltb-false i n f)
         | inr f ↦
             let g = or_parts (leb 19 i) _ f in
-            inl (omega arith, inr (leb-false 19 i g.0, λ s. let same : l ≡ builtin_line i = cc in both_ways _ g.1 ((bytes_eq-Decides l (builtin_line i)).1 same)))
+            not-built-in h (leb-false 19 i g.0) (λ s. let same : l ≡ builtin_line i = cc in both_ways _ g.1 ((bytes_eq-Decides l (builtin_line i)).1 same))
       ]
 
-  good-here : good_line n i l ≡ true → Broken (l ∷ ls) half n i 0 → ⊥
-  good-here e (inl (h, inl m)) = let a : i < n = ltb-true i n (and_parts (ltb i n) _ e).0 in omega arith
-  good-here e (inl (h, inr (m, differs))) =
+  good-line : (i : ℕ) (l : List ℕ) → slice_get (lines_of bs) i ≡ Some l → i < length (lines_of bs) → good_line n i l ≡ true → Bad i → ⊥
+  good-line i l at h e (too_many g m) = let a : i < n = ltb-true i n (and_parts (ltb i n) _ e).0 in omega arith
+  good-line i l at h e (not-built-in g m differs) =
       elim (or_cases (leb 19 i) _ (and_parts (ltb i n) _ e).1) [
         | inl f ↦ let a : 19 ≤ i = leb-true 19 i f in omega arith
-        | inr f ↦ differs (ap Some ((bytes_eq-Decides l (builtin_line i)).0 f))
+        | inr f ↦ differs (at ∙ ap Some ((bytes_eq-Decides l (builtin_line i)).0 f))
       ]
-  good-here e (inr (h, w)) = omega arith
+  good-line i l at h e (half-done g w) = omega arith
+  good-line i l at h e (no_name g w) = omega arith
+  good-line i l at h e (no-built-in g w) = omega arith
 
-bad-end : (half : Bool) (n i : ℕ) → (half || (ltb i n || ltb i 19)) ≡ true → Broken [] half n i 0
-bad-end half n i e =
-    elim (or_cases half _ e) [
-      | inl f ↦ inr (refl, inl f)
-      | inr f ↦ elim (or_cases (ltb i n) _ f) [ inl g ↦ inr (refl, inr (inl (ltb-true i n g))) | inr g ↦ inr (refl, inr (inr (ltb-true i 19 g))) ]
-    ]
+  -- the line after the last one
+  bad-end : (i : ℕ) → i ≡ length (lines_of bs) → (unfinished bs || (ltb i n || ltb i 19)) ≡ true → Bad i
+  bad-end i z e =
+      elim (or_cases (unfinished bs) _ e) [
+        | inl f ↦ half-done z f
+        | inr f ↦ elim (or_cases (ltb i n) _ f) [ inl g ↦ no_name z (ltb-true i n g) | inr g ↦ no-built-in z (ltb-true i 19 g) ]
+      ]
 
-good-end : (half : Bool) (n i : ℕ) → (half || (ltb i n || ltb i 19)) ≡ false → (k : ℕ) → Broken [] half n (i + k) k → ⊥
-good-end half n i e k (inl (h, w)) = omega arith
-good-end half n i e k (inr (h, inl f)) = both_ways half (or_parts half _ e).0 f
-good-end half n i e k (inr (h, inr (inl f))) = let a : n ≤ i = ltb-false i n (or_parts (ltb i n) _ (or_parts half _ e).1).0 in omega arith
-good-end half n i e k (inr (h, inr (inr f))) = let a : 19 ≤ i = ltb-false i 19 (or_parts (ltb i n) _ (or_parts half _ e).1).1 in omega arith
+  good-end : (i k : ℕ) → i ≡ length (lines_of bs) → i ≤ k → (unfinished bs || (ltb i n || ltb i 19)) ≡ false → Bad k → ⊥
+  good-end i k z l e (too_many h w) = omega arith
+  good-end i k z l e (not-built-in h w differs) = omega arith
+  good-end i k z l e (half-done h f) = both_ways (unfinished bs) (or_parts (unfinished bs) _ e).0 f
+  good-end i k z l e (no_name h f) = let a : n ≤ i = ltb-false i n (or_parts (ltb i n) _ (or_parts (unfinished bs) _ e).1).0 in omega arith
+  good-end i k z l e (no-built-in h f) = let a : 19 ≤ i = ltb-false i 19 (or_parts (ltb i n) _ (or_parts (unfinished bs) _ e).1).1 in omega arith
 
-bad-from : (ls : List (List ℕ)) (half : Bool) (n j : ℕ) → FirstFrom j (λ k. Broken ls half n (j + k) k) (bad_from ls half n j)
-bad-from [] half n j =
-    let P : ℕ → Type 0 = λ k. Broken [] half n (j + k) k in
-    cond_both (half || (ltb j n || ltb j 19)) (Some j) None (FirstFrom j P)
-    (λ e. at_once j P (subst (λ i. Broken [] half n i 0) (sym (add-zero j)) (bad-end half n j e)))
-    (λ e. good-end half n j e)
-bad-from (l ∷ ls) half n j =
-    let P : ℕ → Type 0 = λ k. Broken (l ∷ ls) half n (j + k) k in
-    let Q : ℕ → Type 0 = λ k. Broken ls half n ((j + 1) + k) k in
-    cond_both (good_line n j l) (bad_from ls half n (j + 1)) (Some j) (FirstFrom j P)
-    (λ e. later j P Q
-    (λ p. good-here l ls half n j e (subst (λ i. Broken (l ∷ ls) half n i 0) (add-zero j) p))
-    (λ k p. subst (λ i. Broken ls half n i k) (one_more j k) (down l ls half n (j + suc k) k p))
-    (λ k q. up l ls half n (j + suc k) k (subst (λ i. Broken ls half n i k) (sym (one_more j k)) q))
-    (bad_from ls half n (j + 1)) (bad-from ls half n (j + 1)))
-    (λ e. at_once j P (subst (λ i. Broken (l ∷ ls) half n i 0) (sym (add-zero j)) (bad-here l ls half n j e)))
+  judge : (ls : List (List ℕ)) (i : ℕ) → From (lines_of bs) ls i → i + length ls ≡ length (lines_of bs) → Below Bad i → MatchOption (bad_from ls (unfinished bs) n i) (Never Bad) (FirstAt Bad)
+  judge [] i f z b =
+      elim (cases_Bool (unfinished bs || (ltb i n || ltb i 19))) [
+        | inl e ↦ rw e (bad-end i (omega arith) e, b)
+        | inr e ↦ rw e (λ k p. elim (cases_lt k i) [ inl l ↦ b k l p | inr l ↦ good-end i k (omega arith) l e p ])
+      ]
+  judge (l ∷ ls) i f z b =
+      let at = here (lines_of bs) l ls i f in
+      let h : i < length (lines_of bs) = omega arith in
+      elim (cases_Bool (good_line n i l)) [
+        | inl e ↦ rw e (judge ls (i + 1) (on (lines_of bs) l ls i f) (omega arith) (below-next Bad i b (good-line i l at h e)))
+        | inr e ↦ rw e (bad-line i l at h e, b)
+      ]
 
--- the rule in its own words
-module _ (bs : List ℕ) (n : ℕ) where
-  at-fault : (i : ℕ) → Broken (lines_of bs) (unfinished bs) n i i → AtFault bs n i
-  at-fault i (inl (h, inl w)) = too_many h w
-  at-fault i (inl (h, inr (w, differs))) = not-built-in h w differs
-  at-fault i (inr (h, inl w)) = half-done h w
-  at-fault i (inr (h, inr (inl w))) = no_name h w
-  at-fault i (inr (h, inr (inr w))) = no-built-in h w
-
-  broken : (i : ℕ) → AtFault bs n i → Broken (lines_of bs) (unfinished bs) n i i
-  broken i (too_many h w) = inl (h, inl w)
-  broken i (not-built-in h w differs) = inl (h, inr (w, differs))
-  broken i (half-done h w) = inr (h, inl w)
-  broken i (no_name h w) = inr (h, inr (inl w))
-  broken i (no-built-in h w) = inr (h, inr (inr w))
-
-  judged : MatchOption (bad_line bs n) (Never (AtFault bs n)) (FirstAt (AtFault bs n))
-  judged =
-      let Line : ℕ → ℕ → Type 0 = Broken (lines_of bs) (unfinished bs) n in
-      from_start (λ k. Line (0 + k) k) (AtFault bs n)
-      (λ k b. at-fault k (subst (λ i. Line i k) (zero-add k) b))
-      (λ k f. subst (λ i. Line i k) (sym (zero-add k)) (broken k f))
-      (bad_line bs n) (bad-from (lines_of bs) (unfinished bs) n 0)
+  judged : MatchOption (bad_line bs n) (Never Bad) (FirstAt Bad)
+  judged = judge (lines_of bs) 0 (whole (lines_of bs)) (zero-add (length (lines_of bs))) (λ k h. absurd (omega arith))
 
   fits-of : Never (AtFault bs n) → Fits bs n
   fits-of never =
@@ -126,16 +93,17 @@ module _ (bs : List ℕ) (n : ℕ) where
   never-of fit i (no_name h w) = let e = fit.count in omega arith
   never-of fit i (no-built-in h w) =
       let past : length (lines_of bs) ≤ i = omega arith in
-      some≢none _ (builtin_line i) (fit.built_in i w) (slice_get_past (lines_of bs) i past)
+      let told = sym (fit.built_in i w) ∙ slice_get_past (lines_of bs) i past in
+      let z : ◌≡◌ {A = ℕ} 0 1 = cc in omega arith
 
   pub fits : bad_line bs n ≡ None → Fits bs n
   fits e = fits-of (MatchOption-at_none (Never (AtFault bs n)) (FirstAt (AtFault bs n)) e judged)
 
-  pub first-bad : (i : ℕ) → bad_line bs n ≡ Some i → FirstAt (AtFault bs n) i
+  first-bad : (i : ℕ) → bad_line bs n ≡ Some i → FirstAt (AtFault bs n) i
   first-bad i e = MatchOption-at_some (Never (AtFault bs n)) (FirstAt (AtFault bs n)) i e judged
 
-  pub unfit : (i : ℕ) → bad_line bs n ≡ Some i → Fits bs n → ⊥
+  unfit : (i : ℕ) → bad_line bs n ≡ Some i → Fits bs n → ⊥
   unfit i e fit = never-of fit i (first-bad i e).0
 
-  pub all-names : Fits bs n → names_of bs n ≡ lines_of bs
-  all-names fit = let e = fit.count in let few : length (lines_of bs) ≤ n = omega arith in take_all n (lines_of bs) few
+  pub misfit : (i : ℕ) → bad_line bs n ≡ Some i → Misfit bs n (BadLine i)
+  misfit i e = record { first = (i, refl, first-bad i e); unfit = unfit i e }

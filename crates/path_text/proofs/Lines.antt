@@ -1,8 +1,10 @@
 -- The lines of a text, one after the other.
-use Rattle.std.proofs.Common.{◌≡◌, ℕ, zero, suc, ◌+◌, ◌-◌, ◌<◌, not, eqb, ltb, List, [], ◌∷◌, length, get_or, take, drop, sym, refl, ap, ◌∙◌, inl, inr, suc-le-suc, le_of_suc-le-suc, not-suc-le-zero, add-one, arith, length-drop}
+use Rattle.std.proofs.Common.{◌≡◌, ℕ, zero, suc, ◌+◌, ◌-◌, ◌<◌, Bool, Decides, not, eqb, ltb, List, [], ◌∷◌, length, get_or, take, drop, sym, refl, ap, ◌∙◌, inl, inr, suc-le-suc, le_of_suc-le-suc, not-suc-le-zero, add-one, arith, rules, length-drop}
 use Rattle.std.proofs.lemmas.List.{get_or-drop, get_or_default, drop_all}
-use Rattle.std.proofs.lemmas.Bool.{cases_lt, eq-eqb, ne_eqb, lt-ltb}
-use Rattle.path_text.specs.Lists.{glue, lines_of, unfinished, OneLine, Split}
+use Rattle.std.proofs.lemmas.Bool.{cases_lt, eq-eqb, ne_eqb, lt-ltb, lt-leb}
+use Rattle.std.proofs.lemmas.Slice.Eq.{bytes_eq-Decides}
+use Rattle.std.specs.Str.{bytes_eq}
+use Rattle.path_text.specs.Lists.{glue, lines_of, unfinished, OneLine, Split, builtin_line, good_line}
 
 -- no line feed stands below m
 abbrev pub NoFeed : List ℕ → ℕ → Type 0
@@ -10,8 +12,7 @@ NoFeed xs m = (k : ℕ) → k < m → get_or xs k 0 ≡ 10 → ⊥
 
 no_lines : (xs : List ℕ) → NoFeed xs (length xs) → lines_of xs ≡ []
 no_lines [] no-feed = refl
-no_lines (x ∷ xs) no-feed =
-    rw (ne_eqb x 10 (no-feed 0 (omega arith))) (ap (glue x) (no_lines xs (λ k l. no-feed (suc k) (suc-le-suc l))))
+no_lines (x ∷ xs) no-feed = rw (ne_eqb x 10 (no-feed 0 (omega arith))) (ap (glue x) (no_lines xs (λ k l. no-feed (suc k) (suc-le-suc l))))
 
 no_end : (xs : List ℕ) → NoFeed xs (length xs) → unfinished xs ≡ ltb 0 (length xs)
 no_end [] no-feed = refl
@@ -26,8 +27,7 @@ one_line xs no-feed = record { none = no_lines xs no-feed; half = no_end xs no-f
 next-line : (xs : List ℕ) (m : ℕ) → m < length xs → get_or xs m 0 ≡ 10 → NoFeed xs m → lines_of xs ≡ take m xs ∷ lines_of (drop (suc m) xs)
 next-line [] m h e no-feed = absurd (not-suc-le-zero h)
 next-line (x ∷ xs) zero h e no-feed = rw (eq-eqb x 10 e)
-next-line (x ∷ xs) (suc m) h e no-feed =
-    rw (ne_eqb x 10 (no-feed 0 (omega arith))) (ap (glue x) (next-line xs m (le_of_suc-le-suc h) e (λ k l. no-feed (suc k) (suc-le-suc l))))
+next-line (x ∷ xs) (suc m) h e no-feed = rw (ne_eqb x 10 (no-feed 0 (omega arith))) (ap (glue x) (next-line xs m (le_of_suc-le-suc h) e (λ k l. no-feed (suc k) (suc-le-suc l))))
 
 -- past a line feed the text ends as it did
 same_end : (xs : List ℕ) (m : ℕ) → m < length xs → get_or xs m 0 ≡ 10 → unfinished xs ≡ unfinished (drop (m + 1) xs)
@@ -40,9 +40,10 @@ same_end xs m h e =
     ]
 
 pub split : (xs : List ℕ) (m : ℕ) → m < length xs → get_or xs m 0 ≡ 10 → NoFeed xs m → Split xs (take m xs) (drop (m + 1) xs)
-split xs m h e no-feed =
-    record {
-      lines = rw (add-one m) (next-line xs m h e no-feed);
-      half = same_end xs m h e;
-      shorter = simp length-drop (omega arith);
-    }
+split xs m h e no-feed = record { lines = rw (add-one m) (next-line xs m h e no-feed); half = same_end xs m h e; shorter = simp length-drop (omega arith) }
+
+-- a line among the first nineteen is compared with the built-in name
+pub good-built-in : (n i : ℕ) (l : List ℕ) → i < n → (t : List ℕ) (r : Bool) → i < 19 → t ≡ builtin_line i → Decides r (l ≡ t) → r ≡ good_line n i l
+good-built-in n i l h t r below e d =
+    let same : r ≡ bytes_eq l t = search (rules, bytes_eq-Decides) in
+    same ∙ rw (lt-ltb i n h, lt-leb 19 i below) (ap (bytes_eq l) e)

@@ -1,55 +1,53 @@
--- Which texts are names, by the length of the word at their front and its kind.
-use Rattle.std.proofs.Common.{◌≡◌, ℕ, zero, suc, ◌<◌, ◌≤◌, Bool, true, false, eqb, List, [], ◌∷◌, length, get_or, Decides, refl, ap, subst, inl, inr, le_of_suc-le-suc, arith}
-use Rattle.std.proofs.lemmas.List.{take_all}
-use Rattle.std.proofs.lemmas.Bool.{cases_lt, eqb-true, eq-eqb}
-use Rattle.path_text.specs.declared.scan.Before.TheVariants.{Names}
-use Rattle.path_text.specs.declared.scan.WordKind.{WordKind}
-use Rattle.path_text.specs.declared.scan.WordKind.TheVariants as kind
+-- Which texts are names, by their first segment.
+use Rattle.std.proofs.Common.{◌≡◌, ℕ, ◌+◌, true, false, ◌&&◌, eqb, List, [], ◌∷◌, ◌++◌, length, Decides, sym, refl, ap, ◌∙◌, subst, append-nil, inl, inr, arith}
+use Rattle.std.proofs.lemmas.Bool.{cases_Bool}
+use Rattle.path_text.specs.declared.segment.WordKind.{WordKind}
+use Rattle.path_text.specs.declared.segment.WordKind.TheVariants as word
 use Rattle.path_text.specs.Bytes.{inner}
-use Rattle.path_text.specs.Scan.{word_of, is_name_kind, stands}
-use Rattle.path_text.specs.Grammar.{Inners, Word, IsName}
-use Rattle.path_text.proofs.Readings.{name-kind, kind-name}
-use Rattle.path_text.proofs.Spans.{Front}
-use Rattle.path_text.proofs.Steps.{word-front}
+use Rattle.path_text.specs.Grammar.{Inners, IsName}
+use Rattle.path_text.specs.Words.{NoInner}
+use Rattle.path_text.specs.Segments.{Piece, piece, next_at, segments, word_of, is_name, is_end}
+use Rattle.path_text.proofs.Cut.{more_at, seg}
+use Rattle.path_text.proofs.Follow.{Means, means, no, name-kind, letter-inners}
+use Rattle.path_text.proofs.Verdict.{cut}
 
-unlike : {X : Type 0} (b : Bool) → b ≡ true → b ≡ false → X
-unlike b e f = absurd (let z : ◌≡◌ {A = ℕ} 0 1 = cc in omega arith)
+not-end : (n b : ℕ) (r : List ℕ) → is_end (next_at n (b ∷ r)) ≡ false
+not-end n b [] = refl
+not-end n b (d ∷ r) =
+    elim (cases_Bool (eqb b 58)) [
+      | inl e ↦ elim (cases_Bool (eqb d 58)) [ inl f ↦ rw (e, f) | inr f ↦ rw (e, f) ]
+      | inr e ↦ rw e
+    ]
 
-inners-all : (xs : List ℕ) → Inners xs → (k : ℕ) → k < length xs → inner (get_or xs k 0) ≡ true
-inners-all [] a k h = absurd (omega arith)
-inners-all (b ∷ xs) a zero h = a.0
-inners-all (b ∷ xs) a (suc k) h = inners-all xs a.1 k (le_of_suc-le-suc h)
+whole : (w : List ℕ) → Inners w → Decides (is_name (word_of w)) (IsName w)
+whole w i = by_kind (word_of w) refl (means w i)
+  where
+    by_kind : (k : WordKind) → word_of w ≡ k → Means k w → Decides (is_name k) (IsName w)
+    by_kind word.Name z t = (λ e. t, λ n. refl)
+    by_kind _ z t = (λ e. no e, λ n. ap is_name (sym z ∙ name-kind w n))
 
-half-word : (xs : List ℕ) (m : ℕ) → 0 < m → m < length xs → inner (get_or xs m 0) ≡ false → Word xs → ⊥
-half-word [] m p h f w = w
-half-word (b ∷ xs) zero p h f w = absurd (omega arith)
-half-word (b ∷ xs) (suc m) p h f w = unlike (inner (get_or xs m 0)) (inners-all xs w.1 m (le_of_suc-le-suc h)) f
+abbrev Tells : List ℕ → Piece → Type 0
+Tells bs s = Decides (is_end s.next && is_name (word_of s.text)) (IsName bs)
 
-whole_word : (xs : List ℕ) (m : ℕ) → 0 < m → m ≡ length xs → Front xs m → Word xs
-whole_word xs m p e f =
-    let le : length xs ≤ m = omega arith in
-    subst Word (take_all m xs le) (word-front xs m p f.inside (f.some p) f.all)
+split-decides : (w r : List ℕ) → Inners w → NoInner r → Decides (is_end (next_at (0 + length w) r) && is_name (word_of w)) (IsName (w ++ r))
+split-decides w [] i h = subst (λ (t : List ℕ). Decides (is_name (word_of w)) (IsName t)) (sym (append-nil w)) (whole w i)
+split-decides w (b ∷ r) i h =
+    rw (not-end (0 + length w) b r) (λ e. no e, λ n. no (sym h ∙ inner-at w (letter-inners (w ++ b ∷ r) n.word)))
+  where
+    inner-at : (w : List ℕ) → Inners (w ++ b ∷ r) → inner b ≡ true
+    inner-at [] i = i.0
+    inner-at (x ∷ w) i = inner-at w i.1
 
--- a text is a word where the word at its front is all of it
-pub word-decides : (xs : List ℕ) (m : ℕ) → 0 < m → Front xs m → Decides (eqb m (length xs)) (Word xs)
-word-decides xs m p f = (
-  λ e. whole_word xs m p (eqb-true m (length xs) e) f,
-  λ w. elim (cases_lt m (length xs)) [
-    | inl h ↦ absurd (half-word xs m p h (f.ended p h) w)
-    | inr h ↦ let le = f.inside in eq-eqb m (length xs) (let e : m ≡ length xs = omega arith in e)
-  ],
-)
+pub first-decides : (bs : List ℕ) (s : Piece) (ss : List Piece) → segments 0 bs ≡ s ∷ ss → Decides (is_end s.next && is_name (word_of s.text)) (IsName bs)
+first-decides bs s ss e =
+    let k = cut bs in
+    let here : Piece = piece k.word 0 (next_at (0 + length k.word) k.rest) in
+    let f : here ∷ more_at (0 + length k.word) k.rest ≡ s ∷ ss = sym (seg k.word k.rest 0 k.inners k.ended) ∙ ap (segments 0) (sym k.text) ∙ e in
+    let z : here ≡ s = cc in
+    subst (Tells bs) z (subst (λ (t : List ℕ). Tells t here) (sym k.text) (split-decides k.word k.rest k.inners k.ended))
 
-only-name : (v : WordKind) → is_name_kind v ≡ true → v ≡ kind.Name
-only-name kind.Crate e = unlike false e refl
-only-name kind.Own e = unlike false e refl
-only-name kind.Super e = unlike false e refl
-only-name kind.Bare e = unlike false e refl
-only-name kind.Name e = refl
-
--- a word is a name by its kind
-pub named : (w : List ℕ) → Word w → Decides (is_name_kind (word_of w)) (IsName w)
-named w h = (
-  λ e. let is = only-name (word_of w) e in kind-name Names w (record { word = h; may = ap (stands Names) is }) is,
-  λ n. ap is_name_kind (name-kind w n),
-)
+pub some-first : {X : Type 0} (bs : List ℕ) → segments 0 bs ≡ [] → X
+some-first bs e =
+    let k = cut bs in
+    let f = sym (seg k.word k.rest 0 k.inners k.ended) ∙ ap (segments 0) (sym k.text) ∙ e in
+    absurd (let z : ◌≡◌ {A = ℕ} 0 1 = cc in omega arith)

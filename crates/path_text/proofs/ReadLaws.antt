@@ -1,174 +1,187 @@
--- What the equation of a reading means in the grammar.
-use Rattle.std.proofs.Common.{◌≡◌, ℕ, ◌<◌, ◌≤◌, Bool, true, false, cond, ltb, List, [], ◌∷◌, ◌++◌, length, take, drop, Some, None, Ok, Err, Option, Result, sym, refl, ap, ◌∙◌, subst, arith, take-append-drop, MatchResult}
-use mathlib.Core.List.{map-append}
-use lib.ListN.{length-map}
+-- What a path that was read, or a refusal, says of its text in the words of the grammar.
+use Rattle.std.proofs.Common.{◌≡◌, ℕ, ◌+◌, ◌≤◌, Bool, true, false, ltb, List, [], ◌∷◌, ◌++◌, length, Some, None, Ok, Err, Option, Result, MatchOption, is_ok, sym, refl, ap, ◌∙◌, subst, append-nil, append_assoc, arith}
 use Rattle.std.proofs.lemmas.Bool.{ltb-true, ltb-false}
+use Rattle.std.proofs.lemmas.List.{length-map, map-append}
 use Rattle.hir_def.specs.declared.Name.{Name}
 use Rattle.hir_def.specs.declared.fault.TextFault.{TextFault}
 use Rattle.hir_def.specs.declared.fault.TextFault.TheVariants.{TooManyNames, TooManySupers, BadText, UnknownName}
 use Rattle.path_text.specs.declared.mod_path.PathKind.{PathKind}
-use Rattle.hir_def.specs.declared.fault.Failure.{Failure}
-use Rattle.hir_def.specs.declared.fault.Failure.TheVariants.{Memory, Refused}
-use Rattle.hir_def.specs.Faults.{IfRefused}
-use Rattle.path_text.specs.Grammar.{Reads, IsPath}
-use Rattle.path_text.specs.Lists.{first}
-use Rattle.path_text.specs.declared.scan.WordKind.{WordKind}
-use Rattle.path_text.specs.declared.scan.WordKind.TheVariants as word
-use Rattle.path_text.specs.Scan.{word_of, stop_of}
-use Rattle.path_text.specs.Numbers.{one_before, numbers_of}
-use Rattle.path_text.specs.Readings.{Span, supers_at, start_by, start_of, kind_by, kind_of}
-use Rattle.path_text.specs.Paths.{Read, led_by, spans_of, counts_of, named, allowed, read_words, unless_stopped, read_of}
-use Rattle.path_text.specs.Laws.{Numbered, level_of, IsRead, Unlisted, Denies}
-use Rattle.path_text.proofs.Exact.{Verdict, verdict}
-use Rattle.path_text.proofs.Unique.{texts, unique}
-use Rattle.path_text.proofs.Placed.{placed, missing}
+use Rattle.path_text.specs.declared.mod_path.PathKind.TheVariants as path
+use Rattle.path_text.specs.declared.language.Before.TheVariants.{Nothing}
+use Rattle.path_text.specs.Grammar.{Names as AllNames, joined, lead, Reads, IsPath}
+use Rattle.path_text.specs.Words.{closed}
+use Rattle.path_text.specs.Lists.{Never, FirstAt, first, IsLineAt}
+use Rattle.path_text.specs.Segments.{Piece, segments, word_of, is_name}
+use Rattle.path_text.specs.Texts.{stop_of, unless_stopped}
+use Rattle.path_text.specs.Paths.{names_in, level_in, kind_in, listed_in, unlisted_in, counts_of, Read, allowed, read_words, read_of}
+use Rattle.path_text.specs.Laws.{Numbered, level_of, IsRead, TooLong, TooHigh, IsLine, AllLines, Unlisted, Denies, IsReadable}
+use Rattle.path_text.proofs.First.{found_first}
+use Rattle.path_text.proofs.Reading.{Judged, judged, front, told, spoken, reads-line, names, level, kind, texts, texts-joined, place-of, filter-texts, level-texts, kind-texts, parts}
+use Rattle.path_text.proofs.Gathering.{counts_ok}
 
-ok-err : {X A B : Type 0} {a : A} {b : B} → Ok a ≡ Err b → X
-ok-err e = absurd (let z : ◌≡◌ {A = ℕ} 0 1 = cc in omega arith)
+same-path : (a k : PathKind) (x ns : List Name) → ◌≡◌ {A = Read} (Ok (a, x)) (Ok (k, ns)) → (a ≡ k) × (x ≡ ns)
+same-path a k x ns e =
+    let pair : ◌≡◌ {A = PathKind × List Name} (a, x) (k, ns) = cc in
+    (ap (λ (p : PathKind × List Name). p.0) pair, ap (λ (p : PathKind × List Name). p.1) pair)
 
--- the numbers of names, one by one
-one-numbered : (ls : List (List ℕ)) (w : List ℕ) (ws : List (List ℕ)) (o : Option ℕ) (place : ℕ) (r : Result (List Name) ℕ) (ns : List Name) → first ls w 0 ≡ o → one_before o place r ≡ Ok ns → ((ms : List Name) → r ≡ Ok ms → Numbered ls ws ms) → Numbered ls (w ∷ ws) ns
-one-numbered ls w ws None place r ns f e ih = ok-err (sym e)
-one-numbered ls w ws (Some n) place (Err p) ns f e ih = ok-err (sym e)
-one-numbered ls w ws (Some n) place (Ok ms) ns f e ih =
-    let z : record { 0 = n } ∷ ms ≡ ns = cc in
-    subst (Numbered ls (w ∷ ws)) z (f, ih ms refl)
-
-numbered : (ls : List (List ℕ)) (ss : List Span) (ns : List Name) → numbers_of ls ss ≡ Ok ns → Numbered ls (texts ss) ns
-numbered ls [] ns e = let z : [] ≡ ns = cc in subst (Numbered ls []) z tt
-numbered ls (s ∷ ss) ns e = one-numbered ls s.text (texts ss) (first ls s.text 0) s.place (numbers_of ls ss) ns refl e (numbered ls ss)
-
--- an allowed reading has its kind and its numbers
-parts : (c : Result (Unit {0}) TextFault) (k' : PathKind) (r : Result (List Name) ℕ) (k : PathKind) (ns : List Name) → allowed c (named k' r) ≡ Ok (k, ns) → (k' ≡ k) × (r ≡ Ok ns)
-parts (Err f) k' r k ns e = ok-err (sym e)
-parts (Ok u) k' (Err p) k ns e = ok-err (sym e)
-parts (Ok u) k' (Ok ms) k ns e = let z : (k', ms) ≡ (k, ns) = cc in (ap (λ (p : PathKind × List Name). p.0) z, ap (λ (p : PathKind × List Name). Ok p.1) z)
-
--- the level of a path is that of its start
-level_by : (v : WordKind) (n : ℕ) → level_of (kind_by (start_by v n).first (start_by v n).level) ≡ (start_by v n).level
-level_by word.Crate n = refl
-level_by word.Own n = refl
-level_by word.Super n = refl
-level_by word.Bare n = refl
-level_by word.Name n = refl
-
-level-told : (led : Bool) (ss : List Span) → level_of (kind_of led (start_of led ss)) ≡ (start_of led ss).level
-level-told true ss = refl
-level-told false [] = refl
-level-told false (s ∷ ss) = level_by (word_of s.text) (supers_at ss)
-
--- what is read is within the counts
-counted : (n level : ℕ) (r : Read) (x : PathKind × List Name) → allowed (counts_of n level) r ≡ Ok x → (n ≤ 64) × (level ≤ 255)
-counted n level r x e = by (ltb 64 n) (ltb 255 level) refl refl e
+-- ---- names and lines
+numbered : (ls : List (List ℕ)) (ss : List Piece) → unlisted_in ls ss ≡ None → Numbered ls (texts ss) (listed_in ls ss)
+numbered ls [] e = tt
+numbered ls (s ∷ ss) e = at (first ls s.text 0) refl e (numbered ls ss)
   where
-    by : (a b : Bool) → ltb 64 n ≡ a → ltb 255 level ≡ b → allowed (cond a (Err TooManyNames) (cond b (Err TooManySupers) (Ok tt))) r ≡ Ok x → (n ≤ 64) × (level ≤ 255)
-    by true b f g h = ok-err (sym h)
-    by false true f g h = ok-err (sym h)
-    by false false f g h = (ltb-false 64 n f, ltb-false 255 level g)
+    at : (o : Option ℕ) → first ls s.text 0 ≡ o → unlisted_in ls (s ∷ ss) ≡ None → (unlisted_in ls ss ≡ None → Numbered ls (texts ss) (listed_in ls ss)) → Numbered ls (texts (s ∷ ss)) (listed_in ls (s ∷ ss))
+    at None z e ih = let f = rw z at e in absurd (let y : ◌≡◌ {A = ℕ} 0 1 = cc in omega arith)
+    at (Some n) z e ih = rw z (z, ih (rw z at e))
 
+-- the first name that is no line
+record Missing (ls : List (List ℕ)) (ss : List Piece) (place : ℕ) : Type 0 where
+  pre : List Piece
+  piece : Piece
+  post : List Piece
+  split : ss ≡ pre ++ piece ∷ post
+  listed : AllLines ls (texts pre)
+  unlisted : IsLine ls piece.text → ⊥
+  is : piece.place ≡ place
+
+is-line : (ls : List (List ℕ)) (t : List ℕ) (o : Option ℕ) → first ls t 0 ≡ o → MatchOption o (IsLine ls t → ⊥) (λ n. IsLine ls t)
+is-line ls t o e = at o (subst (λ o. MatchOption o (Never (IsLineAt ls t)) (FirstAt (IsLineAt ls t))) e (found_first ls t))
+  where
+    at : (o : Option ℕ) → MatchOption o (Never (IsLineAt ls t)) (FirstAt (IsLineAt ls t)) → MatchOption o (IsLine ls t → ⊥) (λ n. IsLine ls t)
+    at None f = λ h. f h.0 h.1
+    at (Some n) f = (n, f.0)
+
+missing : (ls : List (List ℕ)) (ss : List Piece) (p : ℕ) → unlisted_in ls ss ≡ Some p → Missing ls ss p
+missing ls [] p e = absurd (let y : ◌≡◌ {A = ℕ} 0 1 = cc in omega arith)
+missing ls (s ∷ ss) p e = at (first ls s.text 0) refl e (missing ls ss p)
+  where
+    at : (o : Option ℕ) → first ls s.text 0 ≡ o → unlisted_in ls (s ∷ ss) ≡ Some p → (unlisted_in ls ss ≡ Some p → Missing ls ss p) → Missing ls (s ∷ ss) p
+    at None z e ih =
+        let f = rw z at e in
+        record { pre = []; piece = s; post = ss; split = refl; listed = tt; unlisted = is-line ls s.text None z; is = let y : s.place ≡ p = cc in y }
+    at (Some n) z e ih =
+        let m = ih (rw z at e) in
+        record { pre = s ∷ m.pre; piece = m.piece; post = m.post; split = ap (λ (t : List Piece). s ∷ t) m.split; listed = (is-line ls s.text (Some n) z, m.listed); unlisted = m.unlisted; is = m.is }
+
+lead-closed : (k : PathKind) (st l : List (List ℕ)) → closed (front k st ++ l) ≡ lead k ++ closed (st ++ l)
+lead-closed path.Abs st l = refl
+lead-closed _ st l = refl
+
+-- ---- the reading of a text
 module _ (ls : List (List ℕ)) (text : List ℕ) where
-  abbrev ss : List Span
-  ss = spans_of (led_by text) text
+  abbrev ss : List Piece
+  ss = segments 0 text
 
-  abbrev names : List Span
-  names = drop (start_of (led_by text) ss).len ss
+  abbrev found : List Piece
+  found = names_in ss
 
-  abbrev kind : PathKind
-  kind = kind_of (led_by text) (start_of (led_by text) ss)
+  -- kind and names are those of any reading
+  words-of : (k : PathKind) (ws : List (List ℕ)) (r : Reads text k ws) → texts ss ≡ front k r.start ++ ws
+  words-of k ws r = ap (λ (t : List ℕ). texts (segments 0 t)) (reads-line text k ws r) ∙ (let s = spoken k r.start ws r.starts r.named r.some in texts-joined (front k r.start ++ ws) Nothing 0 s.some s.follows)
 
-  abbrev level : ℕ
-  level = (start_of (led_by text) ss).level
+  unique : (k : PathKind) (ws : List (List ℕ)) → Reads text k ws → (kind_in ss ≡ k) × (texts found ≡ ws) × (level_in ss ≡ level_of k)
+  unique k ws r =
+      let e = words-of k ws r in
+      let t = told k r.start ws r.starts r.named in
+      (kind-texts ss ∙ ap kind e ∙ t.kind_is, filter-texts (λ w. is_name (word_of w)) ss ∙ ap names e ∙ t.names_are, level-texts ss ∙ ap level e ∙ t.level_is)
 
-  few-texts : length names ≤ 64 → length (texts names) ≤ 64
-  few-texts h = subst (λ (n : ℕ). n ≤ 64) (sym (length-map names (λ (s : Span). s.text))) h
-
-  low-level : level ≤ 255 → level_of kind ≤ 255
-  low-level h = subst (λ (n : ℕ). n ≤ 255) (sym (level-told (led_by text) ss)) h
-
-  -- the grammar's reading of a path is the one told
-  the-reading : IsPath text → Reads text kind (texts names)
+  the-reading : IsPath text → Reads text (kind_in ss) (texts found)
   the-reading p =
-      let u = unique text p.kind p.names p.reads in
-      subst (λ (k : PathKind). Reads text k (texts names)) u.0 (subst (λ (l : List (List ℕ)). Reads text p.kind l) u.1 p.reads)
+      let u = unique p.kind p.names p.reads in
+      subst (λ k. Reads text k (texts found)) (sym u.0) (subst (Reads text p.kind) (sym u.1) p.reads)
 
-  is_read : (k : PathKind) (ns : List Name) (o : Option ℕ) → Verdict text o → unless_stopped o (read_words ls (led_by text) ss) ≡ Ok (k, ns) → IsRead ls text k ns
-  is_read k ns (Some place) v e = ok-err (sym e)
-  is_read k ns None v e =
-      let q = parts (counts_of (length names) level) kind (numbers_of ls names) k ns e in
-      let c = counted (length names) level (named kind (numbers_of ls names)) (k, ns) e in
-      record {
-        names = texts names;
-        reads = subst (λ (x : PathKind). Reads text x (texts names)) q.0 (the-reading v);
-        only = λ x ws r. let u = unique text x ws r in (u.0 ∙ q.0, u.1);
-        few = few-texts c.0;
-        low = subst (λ (x : PathKind). level_of x ≤ 255) q.0 (low-level c.1);
-        numbered = numbered ls names ns q.1;
-      }
+  -- the counts
+  few-texts : length found ≤ 64 → length (texts found) ≤ 64
+  few-texts h = omega (arith, length-map found (λ (s : Piece). s.text))
 
-  pub reads_so : (k : PathKind) (ns : List Name) → read_of ls text ≡ Ok (k, ns) → IsRead ls text k ns
-  reads_so k ns e = is_read k ns (stop_of text) (verdict text) e
+  same-level : IsPath text → level_in ss ≡ level_of (kind_in ss)
+  same-level p = let u = unique p.kind p.names p.reads in u.2 ∙ ap level_of (sym u.0)
 
-  -- a name that is no line
-  unlisted : IsPath text → length names ≤ 64 → level ≤ 255 → (place : ℕ) → numbers_of ls names ≡ Err place → Unlisted ls text place
+  is_read : IsPath text → length found ≤ 64 → level_in ss ≤ 255 → unlisted_in ls found ≡ None → IsRead ls text (kind_in ss) (listed_in ls found)
+  is_read p few low all = record {
+    names = texts found;
+    reads = the-reading p;
+    only = λ k ws r. let u = unique k ws r in (sym u.0, sym u.1);
+    few = few-texts few;
+    low = let e = same-level p in omega arith;
+    numbered = numbered ls found all;
+  }
+
+  unlisted : IsPath text → length found ≤ 64 → level_in ss ≤ 255 → (place : ℕ) → unlisted_in ls found ≡ Some place → Unlisted ls text place
   unlisted p few low place e =
-      let text_of : Span → List ℕ = λ x. x.text in
-      let len = (start_of (led_by text) ss).len in
-      let m = missing ls names place e in
-      let t : texts names ≡ texts m.pre ++ m.span.text ∷ texts m.post = ap texts m.split ∙ map-append text_of m.pre (m.span ∷ m.post) in
-      let r = subst (λ (l : List (List ℕ)). Reads text kind l) t (the-reading p) in
+      let m = missing ls found place e in
+      let r = the-reading p in
+      let t : texts found ≡ texts m.pre ++ m.piece.text ∷ texts m.post = ap texts m.split ∙ map-append (λ (s : Piece). s.text) m.pre (m.piece ∷ m.post) in
+      let a = front (kind_in ss) r.start in
+      let none : names a ≡ [] = ap names (sym (append-nil a)) ∙ (told (kind_in ss) r.start [] r.starts tt).names_are in
+      let w = parts a (texts found) ss (words-of (kind_in ss) (texts found) r) none r.named in
+      let whole : ss ≡ (w.before ++ m.pre) ++ m.piece ∷ m.post = w.whole ∙ ap (λ (x : List Piece). w.before ++ x) m.split ∙ sym (append_assoc w.before m.pre (m.piece ∷ m.post)) in
+      let l = front (kind_in ss) r.start ++ texts found in
+      let q = spoken (kind_in ss) r.start (texts found) r.starts r.named r.some in
+      let stands : m.piece.place ≡ 0 + length (closed (texts (w.before ++ m.pre)))
+      = place-of l Nothing 0 (w.before ++ m.pre) m.piece m.post q.some q.follows (ap (segments 0) (sym (reads-line text (kind_in ss) (texts found) r)) ∙ whole) in
+      let words : texts (w.before ++ m.pre) ≡ a ++ texts m.pre = map-append (λ (s : Piece). s.text) w.before m.pre ∙ ap (λ (x : List (List ℕ)). x ++ texts m.pre) w.told in
       record {
-        kind = kind;
+        kind = kind_in ss;
         before = texts m.pre;
-        name = m.span.text;
+        name = m.piece.text;
         more = texts m.post;
-        reads = r;
-        few = subst (λ (l : List (List ℕ)). length l ≤ 64) t (few-texts few);
-        low = low-level low;
+        reads = record {
+          start = r.start;
+          starts = r.starts;
+          named = subst AllNames t r.named;
+          some = subst (λ (x : List (List ℕ)). r.start ++ x ≡ [] → ⊥) t r.some;
+          spelled = subst (λ (x : List (List ℕ)). text ≡ lead (kind_in ss) ++ joined (r.start ++ x)) t r.spelled;
+        };
+        few = subst (λ (x : List (List ℕ)). length x ≤ 64) t (few-texts few);
+        low = let e = same-level p in omega arith;
         listed = m.listed;
         unlisted = m.unlisted;
-        here =
-            sym m.is
-            ∙ placed text kind (texts m.pre ++ m.span.text ∷ texts m.post) r (take len ss) m.pre m.span m.post (sym (take-append-drop len ss) ∙ ap (λ (l : List Span). take len ss ++ l) m.split) (map-append text_of m.pre (m.span ∷ m.post));
+        here = sym m.is ∙ stands ∙ (let z : 0 + length (closed (texts (w.before ++ m.pre))) ≡ length (closed (texts (w.before ++ m.pre))) = omega arith in z) ∙ ap (λ (x : List (List ℕ)). length (closed x)) words ∙ ap length (lead-closed (kind_in ss) r.start (texts m.pre));
       }
 
-  named-denies : IsPath text → length names ≤ 64 → level ≤ 255 → (r : Result (List Name) ℕ) → numbers_of ls names ≡ r → (f : TextFault) → named kind r ≡ Err f → Denies ls text f
-  named-denies p few low (Ok ns) g f e = ok-err e
-  named-denies p few low (Err place) g f e = let z : UnknownName place ≡ f = cc in subst (Denies ls text) z (unlisted p few low place g)
+  too-long : IsPath text → ltb 64 (length found) ≡ true → TooLong text
+  too-long p x = record { kind = kind_in ss; names = texts found; reads = the-reading p; many = let h = ltb-true 64 (length found) x in omega (arith, length-map found (λ (s : Piece). s.text)) }
 
-  counts-deny : IsPath text → (a b : Bool) → ltb 64 (length names) ≡ a → ltb 255 level ≡ b → (f : TextFault) → allowed (cond a (Err TooManyNames) (cond b (Err TooManySupers) (Ok tt))) (named kind (numbers_of ls names)) ≡ Err f → Denies ls text f
-  counts-deny p true b x y f e =
-      let z : TooManyNames ≡ f = cc in
-      subst (Denies ls text) z
-      (record {
-        kind = kind;
-        names = texts names;
-        reads = the-reading p;
-        many = subst (λ (n : ℕ). 64 < n) (sym (length-map names (λ (s : Span). s.text))) (ltb-true 64 (length names) x);
-      })
-  counts-deny p false true x y f e =
-      let z : TooManySupers ≡ f = cc in
-      subst (Denies ls text) z
-      (record {
-        kind = kind;
-        names = texts names;
-        reads = the-reading p;
-        few = few-texts (ltb-false 64 (length names) x);
-        high = subst (λ (n : ℕ). 255 < n) (sym (level-told (led_by text) ss)) (ltb-true 255 level y);
-      })
-  counts-deny p false false x y f e = named-denies p (ltb-false 64 (length names) x) (ltb-false 255 level y) (numbers_of ls names) refl f e
+  too-high : IsPath text → ltb 64 (length found) ≡ false → ltb 255 (level_in ss) ≡ true → TooHigh text
+  too-high p x y = record { kind = kind_in ss; names = texts found; reads = the-reading p; few = few-texts (ltb-false 64 (length found) x); high = let h = ltb-true 255 (level_in ss) y in let e = same-level p in omega arith }
 
-  denied : (f : TextFault) (o : Option ℕ) → Verdict text o → unless_stopped o (read_words ls (led_by text) ss) ≡ Err f → Denies ls text f
-  denied f (Some place) v e = let z : BadText place ≡ f = cc in subst (Denies ls text) z v
-  denied f None v e = counts-deny v (ltb 64 (length names)) (ltb 255 level) refl refl f e
+  counts-deny : IsPath text → (a b : Bool) (o : Option ℕ) → ltb 64 (length found) ≡ a → ltb 255 (level_in ss) ≡ b → unlisted_in ls found ≡ o → (f : TextFault) → counts_of (length found) (level_in ss) o ≡ Err f → Denies ls text f
+  counts-deny p true b o x y z f e = let g = rw x at e in let t : TooManyNames ≡ f = cc in subst (Denies ls text) t (too-long p x)
+  counts-deny p false true o x y z f e = let g = rw (x, y) at e in let t : TooManySupers ≡ f = cc in subst (Denies ls text) t (too-high p x y)
+  counts-deny p false false None x y z f e = let g = rw (x, y) at e in absurd (let t : ◌≡◌ {A = ℕ} 0 1 = cc in omega arith)
+  counts-deny p false false (Some q) x y z f e =
+      let g = rw (x, y) at e in
+      let t : UnknownName q ≡ f = cc in
+      subst (Denies ls text) t (unlisted p (ltb-false 64 (length found) x) (ltb-false 255 (level_in ss) y) q z)
 
-  pub denies-so : (f : TextFault) → read_of ls text ≡ Err f → Denies ls text f
-  denies-so f e = denied f (stop_of text) (verdict text) e
+  pub reads_so : (k : PathKind) (ns : List Name) → read_of ls text ≡ Ok (k, ns) → IsRead ls text k ns
+  reads_so k ns e = at (stop_of text) (judged text) e
+    where
+      counted : (r : Result (Unit {0}) TextFault) → counts_of (length found) (level_in ss) (unlisted_in ls found) ≡ r → IsPath text → allowed r (kind_in ss, listed_in ls found) ≡ Ok (k, ns) → IsRead ls text k ns
+      counted (Ok u) c p e =
+          let h = counts_ok (length found) (level_in ss) (unlisted_in ls found) u c in
+          let x = same-path (kind_in ss) k (listed_in ls found) ns e in
+          subst (λ (k : PathKind). IsRead ls text k ns) x.0 (subst (IsRead ls text (kind_in ss)) x.1 (is_read p h.0 h.1 h.2))
+      counted (Err f) c p e = absurd (let t : ◌≡◌ {A = ℕ} 0 1 = cc in omega arith)
 
-  denied-so : (e : Failure TextFault) → IfRefused (λ f. read_of ls text ≡ Err f) e → IfRefused (Denies ls text) e
-  denied-so (Memory e) h = tt
-  denied-so (Refused f) h = denies-so f h
+      at : (o : Option ℕ) → Judged text o → unless_stopped o (read_words ls ss) ≡ Ok (k, ns) → IsRead ls text k ns
+      at None p e = counted (counts_of (length found) (level_in ss) (unlisted_in ls found)) refl p e
+      at (Some q) v e = absurd (let t : ◌≡◌ {A = ℕ} 0 1 = cc in omega arith)
 
-  -- what a reading tells, for any type of paths
-  pub exactly : (P : Type 0) (kind_in : P → PathKind) (names_in : P → List Name) (r : Result P (Failure TextFault)) → MatchResult r (λ p. read_of ls text ≡ Ok (kind_in p, names_in p)) (IfRefused (λ f. read_of ls text ≡ Err f)) → MatchResult r (λ p. IsRead ls text (kind_in p) (names_in p)) (IfRefused (Denies ls text))
-  exactly P kind_in names_in (Ok p) e = reads_so (kind_in p) (names_in p) e
-  exactly P kind_in names_in (Err u) e = denied-so u e
+  pub denies_so : (f : TextFault) → read_of ls text ≡ Err f → Denies ls text f
+  denies_so f e = at (stop_of text) (judged text) e
+    where
+      refused : (r : Result (Unit {0}) TextFault) → allowed r (kind_in ss, listed_in ls found) ≡ Err f → r ≡ Err f
+      refused (Ok u) e = absurd (let t : ◌≡◌ {A = ℕ} 0 1 = cc in omega arith)
+      refused (Err g) e = let t : g ≡ f = cc in ap Err t
+
+      at : (o : Option ℕ) → Judged text o → unless_stopped o (read_words ls ss) ≡ Err f → Denies ls text f
+      at None p e = counts-deny p (ltb 64 (length found)) (ltb 255 (level_in ss)) (unlisted_in ls found) refl refl refl f (refused _ e)
+      at (Some q) v e = let t : BadText q ≡ f = cc in subst (Denies ls text) t v
+
+  pub readable : is_ok (read_of ls text) ≡ true → IsReadable ls text
+  readable e = at (read_of ls text) refl e
+    where
+      at : (r : Result (PathKind × List Name) TextFault) → read_of ls text ≡ r → is_ok r ≡ true → IsReadable ls text
+      at (Ok p) z e = (p.0, p.1, reads_so p.0 p.1 z)
+      at (Err f) z e = absurd (let t : ◌≡◌ {A = ℕ} 0 1 = cc in omega arith)

@@ -1,15 +1,11 @@
 -- One more word is written.
-use Rattle.std.proofs.Common.{◌≡◌, ℕ, zero, suc, ◌+◌, ◌-◌, ◌<◌, ◌≤◌, Bool, true, false, List, ◌++◌, length, get_or, drop, IfOk, Some, None, Ok, Err, codes, Option, Result, sym, refl, ap, ◌∙◌, append_assoc, append-nil, arith}
-use Rattle.std.proofs.lemmas.List.{drop_more, drop_all}
-use Rattle.std.specs.List.{slice_get}
-use Rattle.hir_def.specs.declared.Name.{Name}
+use Rattle.std.proofs.Common.{◌≡◌, ℕ, zero, suc, ◌+◌, ◌-◌, ◌<◌, Bool, true, false, List, ◌++◌, IfOk, Some, None, Ok, Err, codes, Option, Result, sym, refl, ap, ◌∙◌, append_assoc, append-nil, arith}
 use Rattle.path_text.specs.declared.mod_path.PathKind.TheVariants.{Super}
 use Rattle.path_text.specs.Grammar.{supers, joined_to}
-use Rattle.path_text.specs.Written.{gap, start_text, one_word, names_text, after}
+use Rattle.path_text.specs.Written.{gap, start_text, one_word, after}
 
 word_after : (t g w u : List ℕ) → t ++ g ++ w ++ u ≡ t ++ (g ++ w ++ u)
-word_after t g w u =
-    append_assoc (t ++ g) w u ∙ append_assoc t g (w ++ u) ∙ ap (λ (q : List ℕ). t ++ q) (sym (append_assoc g w u))
+word_after t g w u = append_assoc (t ++ g) w u ∙ append_assoc t g (w ++ u) ∙ ap (λ (q : List ℕ). t ++ q) (sym (append_assoc g w u))
 
 super-more : (n i : ℕ) → i < n → joined_to (supers (n - i)) ≡ gap true ++ codes "super" ++ joined_to (supers (n - (i + 1)))
 super-more n i h =
@@ -32,21 +28,6 @@ pub level-start : {X Y : Type 0} (r : Result X Y) (n : ℕ) (t word next : List 
 level-start (Ok x) n t word next h e f = super-start n t word next h e f
 level-start (Err y) n t word next h e f = tt
 
-one_line : (led : Bool) (t w : List ℕ) (r : Option (List ℕ)) → after t (one_word led (Some w) r) ≡ after (t ++ gap led ++ w) r
+pub one_line : (led : Bool) (t w : List ℕ) (r : Option (List ℕ)) → after t (one_word led (Some w) r) ≡ after (t ++ gap led ++ w) r
 one_line led t w None = refl
 one_line led t w (Some u) = ap Some (sym (word_after t (gap led) w u))
-
-module _ (ls : List (List ℕ)) (xs : List Name) (i : ℕ) (d : Name) (h : i < length xs) (led : Bool) (t : List ℕ) (all : Option (List ℕ)) (inv : all ≡ after t (names_text ls led (drop i xs))) where
-  opened : all ≡ after t (one_word led (slice_get ls (get_or xs i d).0) (names_text ls true (drop (i + 1) xs)))
-  opened = inv ∙ ap (λ (l : List Name). after t (names_text ls led l)) (drop_more xs i d h)
-
-  pub no_line : None ≡ slice_get ls (get_or xs i d).0 → all ≡ None
-  no_line e = opened ∙ ap (λ (o : Option (List ℕ)). after t (one_word led o (names_text ls true (drop (i + 1) xs)))) (sym e)
-
-  pub some-line : (w next : List ℕ) → Some w ≡ slice_get ls (get_or xs i d).0 → next ≡ t ++ gap led ++ w → all ≡ after next (names_text ls true (drop (i + 1) xs))
-  some-line w next e f =
-      opened ∙ ap (λ (o : Option (List ℕ)). after t (one_word led o (names_text ls true (drop (i + 1) xs)))) (sym e)
-      ∙ one_line led t w (names_text ls true (drop (i + 1) xs)) ∙ ap (λ (q : List ℕ). after q (names_text ls true (drop (i + 1) xs))) (sym f)
-
-pub all_lines : (ls : List (List ℕ)) (xs : List Name) (i : ℕ) (led : Bool) (t : List ℕ) (all : Option (List ℕ)) → length xs ≤ i → all ≡ after t (names_text ls led (drop i xs)) → all ≡ Some t
-all_lines ls xs i led t all h inv = inv ∙ ap (λ (l : List Name). after t (names_text ls led l)) (drop_all i xs h) ∙ ap Some (append-nil t)

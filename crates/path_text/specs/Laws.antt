@@ -5,7 +5,7 @@ use Rattle.hir_def.specs.declared.Name.{Name}
 use Rattle.hir_def.specs.declared.fault.TextFault.{TextFault}
 use Rattle.hir_def.specs.declared.fault.TextFault.TheVariants.{TooManyNames, TooManySupers, BadLine, BadText, UnknownName}
 use Rattle.path_text.specs.declared.mod_path.PathKind.{PathKind}
-use Rattle.path_text.specs.declared.mod_path.PathKind.TheVariants.{Plain, Super, Crate, Abs, DollarCrate}
+use Rattle.path_text.specs.declared.mod_path.PathKind.TheVariants.{Super}
 use Rattle.path_text.specs.Grammar.{lead, Reads, IsPath}
 use Rattle.path_text.specs.Words.{closed}
 use Rattle.path_text.specs.Places.{RefusedAt}
@@ -14,17 +14,13 @@ use Rattle.path_text.specs.Lists.{first}
 -- each number is that of the first line equal to the name
 abbrev pub Numbered : List (List ℕ) → List (List ℕ) → List Name → Type 0
 Numbered ls [] [] = Unit {0}
-Numbered ls [] (n ∷ ns) = ⊥
-Numbered ls (w ∷ ws) [] = ⊥
 Numbered ls (w ∷ ws) (n ∷ ns) = (first ls w 0 ≡ Some n.0) × Numbered ls ws ns
+Numbered ls _ _ = ⊥
 
 -- how many `super` a path of that kind begins with
 abbrev pub level_of : PathKind → ℕ
-level_of Plain = 0
 level_of (Super n) = n
-level_of Crate = 0
-level_of Abs = 0
-level_of (DollarCrate c) = 0
+level_of _ = 0
 
 -- the grammar reads the text as that kind with these names, and in no other way
 pub record IsRead (ls : List (List ℕ)) (text : List ℕ) (kind : PathKind) (numbers : List Name) : Type 0 where
@@ -78,3 +74,7 @@ Denies ls text TooManySupers = TooHigh text
 Denies ls text (BadLine line) = ⊥
 Denies ls text (BadText at) = RefusedAt IsPath text at
 Denies ls text (UnknownName at) = Unlisted ls text at
+
+-- the text is a path within the counts, and all its names are lines
+abbrev pub IsReadable : List (List ℕ) → List ℕ → Type 0
+IsReadable ls text = (kind : PathKind) × (numbers : List Name) × IsRead ls text kind numbers

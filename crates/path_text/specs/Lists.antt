@@ -1,13 +1,11 @@
 -- Name lists: the lines of a text, the number of a name, and which lines are at fault.
-use Rattle.std.specs.Prelude.{◌≡◌, ℕ, ◌+◌, ◌-◌, ◌<◌, ◌≤◌, Bool, true, cond, if◌then◌else◌, not, ◌&&◌, ◌||◌, List, [], ◌∷◌, length, get_or, take, Some, None, Ok, Err, Option, Result, ◌==◌, ◌≢◌, nat_le, nat_lt, slice_index_or}
-use Rattle.std.specs.Borrow.{Bor}
+use Rattle.std.specs.Prelude.{◌≡◌, ℕ, zero, suc, ◌⊎◌, ◌++◌, ◌+◌, ◌-◌, ◌<◌, ◌≤◌, Bool, true, cond, if◌then◌else◌, not, ◌&&◌, ◌||◌, List, [], ◌∷◌, length, get_or, Some, None, Ok, Err, Option, Result, ◌==◌, ◌≢◌, nat_le, nat_lt, slice_index_or}
 use Rattle.std.specs.List.{slice_get}
 use Rattle.std.specs.Str.{bytes_eq}
 use Rattle.hir_def.specs.declared.Name.{Name}
 use Rattle.hir_def.specs.declared.fault.TextFault.{TextFault}
 use Rattle.hir_def.specs.declared.fault.TextFault.TheVariants.{BadLine}
 use Rattle.hir_def.specs.Builtins.{text_at}
-use Rattle.path_text.specs.declared.name_list.NameList.{NameList}
 
 -- one more byte at the start of the first line
 abbrev pub glue : ℕ → List (List ℕ) → List (List ℕ)
@@ -50,11 +48,6 @@ bad_from (l ∷ ls) half n i = if good_line n i l then bad_from ls half n (i + 1
 abbrev pub bad_line : List ℕ → ℕ → Option ℕ
 bad_line bs n = bad_from (lines_of bs) (unfinished bs) n 0
 
--- a list is refused at the first line at fault
-abbrev pub refused_at : Option ℕ → Option TextFault
-refused_at None = None
-refused_at (Some i) = Some (BadLine i)
-
 -- the list fits an index with n names
 pub record Fits (bs : List ℕ) (n : ℕ) : Type 0 where
   pub count : length (lines_of bs) ≡ n
@@ -84,19 +77,10 @@ FirstAt P i = P i × ((k : ℕ) → k < i → P k → ⊥)
 abbrev pub FirstBad : List ℕ → ℕ → TextFault → Type 0
 FirstBad bs n e = (i : ℕ) × (e ≡ BadLine i) × FirstAt (AtFault bs n) i
 
--- the names of a list for n names: its first n lines, and of a list that fits all lines
-abbrev pub names_of : List ℕ → ℕ → List (List ℕ)
-names_of bs n = take n (lines_of bs)
-
--- the text of a list, for how many names it is, and the names that it has
-abbrev pub text_of : NameList → List ℕ
-text_of l = l.bytes.now
-
-abbrev pub count_of : NameList → ℕ
-count_of l = l.names
-
-abbrev pub name_lines : NameList → List (List ℕ)
-name_lines l = names_of (text_of l) (count_of l)
+-- the list is not what it should be, and the refusal names the first line at fault
+pub record Misfit (bs : List ℕ) (n : ℕ) (e : TextFault) : Type 0 where
+  pub first : FirstBad bs n e
+  pub unfit : Fits bs n → ⊥
 
 -- the number of the first line that is the name, where the lines are counted from i
 abbrev pub first : List (List ℕ) → List ℕ → ℕ → Option ℕ
@@ -107,16 +91,22 @@ abbrev pub as_name : Option ℕ → Option Name
 as_name None = None
 as_name (Some i) = Some (record { 0 = i })
 
--- line i is the name, and one of n
-abbrev pub IsName : List ℕ → ℕ → List ℕ → ℕ → Type 0
-IsName bs n t i = (i < n) × (slice_get (lines_of bs) i ≡ Some t)
+-- line i is the name
+abbrev pub IsLineAt : List (List ℕ) → List ℕ → ℕ → Type 0
+IsLineAt ls t i = slice_get ls i ≡ Some t
 
--- what a slice holds, where there is one
-abbrev pub held_by : Option (Bor (List ℕ)) → Option (List ℕ)
-held_by None = None
-held_by (Some s) = Some s.now
+-- a list stays as it is where it has the name, and else gets one line more
+abbrev pub Grows : List (List ℕ) → List ℕ → List (List ℕ) → Type 0
+Grows ls t ls' = (((i : ℕ) × IsLineAt ls t i) × (ls' ≡ ls)) ⊎ (Never (IsLineAt ls t) × (ls' ≡ ls ++ t ∷ []))
 
--- what making a list answers: the list, or the first line at fault
-abbrev pub MakesList : List ℕ → ℕ → Result NameList TextFault → Type 0
-MakesList bs n (Ok l) = (bad_line bs n ≡ None) × (text_of l ≡ bs) × (count_of l ≡ n)
-MakesList bs n (Err f) = refused_at (bad_line bs n) ≡ Some f
+abbrev pub builtin_lines : ℕ → List (List ℕ)
+builtin_lines zero = []
+builtin_lines (suc n) = builtin_lines n ++ builtin_line n ∷ []
+
+-- the lines of a list, or its first line at fault
+abbrev pub listed : Option ℕ → List (List ℕ) → Result (List (List ℕ)) TextFault
+listed None ls = Ok ls
+listed (Some i) ls = Err (BadLine i)
+
+abbrev pub made_of : List ℕ → ℕ → Result (List (List ℕ)) TextFault
+made_of bs n = listed (bad_line bs n) (lines_of bs)

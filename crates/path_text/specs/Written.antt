@@ -1,10 +1,10 @@
 -- The text that a path is written as.
-use Rattle.std.specs.Prelude.{ℕ, zero, suc, Bool, true, false, List, [], ◌∷◌, ◌++◌, Some, None, codes, Option}
+use Rattle.std.specs.Prelude.{◌≡◌, ℕ, zero, suc, Bool, true, false, cond, List, [], ◌∷◌, ◌++◌, Some, None, codes, Option}
 use Rattle.std.specs.List.{slice_get}
 use Rattle.hir_def.specs.declared.Name.{Name}
 use Rattle.path_text.specs.declared.mod_path.PathKind.{PathKind}
 use Rattle.path_text.specs.declared.mod_path.PathKind.TheVariants.{Plain, Super, Crate, Abs, DollarCrate}
-use Rattle.path_text.specs.Grammar.{supers, joined_to}
+use Rattle.path_text.specs.Grammar.{supers, joined_to, Reads}
 
 -- what stands before a word
 abbrev pub gap : Bool → List ℕ
@@ -23,10 +23,7 @@ start_text (DollarCrate c) = codes "$crate"
 -- `::` stands before the first name
 abbrev pub leads : PathKind → Bool
 leads Plain = false
-leads (Super n) = true
-leads Crate = true
-leads Abs = true
-leads (DollarCrate c) = true
+leads _ = true
 
 abbrev pub one_word : Bool → Option (List ℕ) → Option (List ℕ) → Option (List ℕ)
 one_word led None r = None
@@ -47,5 +44,14 @@ written_of ls kind names = after (start_text kind) (names_text ls (leads kind) n
 
 -- the text written so far, where all names have a line
 abbrev pub all_of : Bool → List ℕ → Option (List ℕ)
-all_of true t = Some t
-all_of false t = None
+all_of b t = cond b (Some t) None
+
+-- the names of those numbers are these lines
+abbrev pub Lined : List (List ℕ) → List Name → List (List ℕ) → Type 0
+Lined ls [] [] = Unit {0}
+Lined ls (n ∷ ns) (w ∷ ws) = (slice_get ls n.0 ≡ Some w) × Lined ls ns ws
+Lined ls _ _ = ⊥
+
+-- what was written reads as that kind with those names, if any text does
+abbrev pub Spells : List (List ℕ) → PathKind → List Name → List ℕ → Type 0
+Spells ls kind names text = (ws : List (List ℕ)) → Lined ls names ws → (t : List ℕ) → Reads t kind ws → Reads text kind ws

@@ -1,19 +1,35 @@
 // Name lists: a name's number is its first line, counted from 0.
-ghost use Rattle.std.specs.Prelude.{◌≡◌, is_ok, IfOk, IfErr, Decides, MatchOption};
+ghost use Rattle.std.specs.Prelude.{◌≡◌, ◌++◌, ◌∷◌, [], IfOk, IfErr, OnOk, OnErr, MatchOption, option_map};
 ghost use Rattle.std.specs.List.{slice_get};
-ghost use Rattle.path_text.specs.Lists.{lines_of, OneLine, Split, good_line, bad_line, MakesList, Fits, FirstBad, text_of, count_of, name_lines, Never, FirstAt, first, as_name, IsName, held_by};
+ghost use Rattle.hir_def.specs.Faults.{Answers, IfRefused, OnMemory};
+ghost use Rattle.path_text.specs.Lists.{lines_of, OneLine, Split, good_line, bad_line, made_of, Fits, Misfit, Never, FirstAt, first, as_name, IsLineAt, Grows, builtin_lines};
 
 use hir_def::Name;
 use hir_def::builtin_type::BuiltinType;
-use hir_def::fault::TextFault;
+use hir_def::fault::{Failure, TextFault};
+use std::alloc::{AllocError, Global};
+use std::collections::HashMap;
+use std::marker::Model;
 
 const BUILTIN_NAMES: usize = 19;
 
-/// The names of an index: one line for each, the built-in names first.
-#[derive(Clone, Copy)]
+/// The names of an index: one line for each, the built-in names first. Contracts see the list of its lines.
+#[derive(Drop)]
 pub struct NameList<'a> {
-    bytes: &'a [u8],
-    names: u32,
+    lines: Vec<&'a [u8]>,
+    // Each line's number; of equal lines, that of the first.
+    numbers: HashMap<&'a [u8], Name>,
+}
+
+impl<'a> Model for NameList<'a> {
+    ghost use Rattle.std.specs.Prelude.{ℕ, List, map};
+    ghost use Rattle.path_text.specs.Numbers.{contents, IsNumbered};
+
+    ghost Value = { List (List ℕ) };
+
+    ghost view = { λ l. contents l.lines.items };
+
+    ghost invariant = { λ l. IsNumbered (contents l.lines.items) l.numbers };
 }
 
 // The first line and what follows its line feed, if a line feed ends it.
@@ -64,48 +80,100 @@ fn first_bad_line(bytes: &[u8], names: u32) -> Option<usize>
 impl<'a> NameList<'a> {
     /// Takes in the list of an index with that many names, or says which line is the first at fault. A list that fits
     /// has one line for each name, a line feed ends each line, and the first nineteen are the built-in names in their
-    /// order.
-    pub fn new(bytes: &'a [u8], names: u32) -> Result<NameList<'a>, TextFault>
-        ensures answers { MakesList bytes.now names result }
-        ensures accepted { Decides (is_ok result) (Fits bytes.now names) }
-        ensures refused { IfErr result (FirstBad bytes.now names) }
-        ensures whole { IfOk result (λ l. name_lines l ≡ lines_of bytes.now) }
+    /// order. Memory can be wanting only for a list that fits.
+    pub fn new(
+        alloc: Global,
+        bytes: &'a [u8],
+        names: u32,
+    ) -> Result<NameList<'a>, Failure<TextFault>>
+        ensures value { Answers (λ l. l) (made_of bytes.now names) result }
+        ensures accepted { IfOk result (λ l. Fits bytes.now names) }
+        ensures refused { IfErr result (IfRefused (Misfit bytes.now names)) }
+        ensures memory { OnMemory result (Fits bytes.now names) }
     {
         match first_bad_line(bytes, names) {
-            Some(line) => Err(TextFault::BadLine(line)),
-            None => Ok(NameList { bytes, names }),
+            Some(line) => Err(Failure::Refused(TextFault::BadLine(line))),
+            None => Ok(NameList::filled(alloc, bytes)?),
         }
     }
 
-    /// The name's number, if the list has the name: its first line.
-    pub fn number(&self, name: &[u8]) -> Option<Name>
-        ensures value { result ≡ as_name (first (name_lines self.now) name.now 0) }
-        ensures earliest { let at = IsName (text_of self.now) (count_of self.now) name.now in
-            MatchOption result (Never at) (λ n. FirstAt at n.0) }
+    // The list of the finished lines.
+    fn filled(alloc: Global, bytes: &'a [u8]) -> Result<NameList<'a>, AllocError>
+        ensures { IfOk result (λ l. l ≡ lines_of bytes.now) }
     {
-        let mut rest = self.bytes;
-        for number in 0..self.names {
-            let (line, after) = split_line(rest)?;
-            if line == name {
-                return Some(Name(number));
-            }
+        let mut list = NameList::empty(alloc);
+        let mut rest = bytes;
+        while let Some((line, after)) = split_line(rest) {
+            list.push(line)?;
             rest = after;
         }
-        None
+        Ok(list)
+    }
+
+    fn empty(alloc: Global) -> NameList<'a>
+        ensures { result ≡ [] }
+    {
+        NameList {
+            lines: Vec::new(alloc),
+            numbers: HashMap::new(alloc),
+        }
+    }
+
+    // One more line, also where an earlier one is equal. It fails too where no number is left.
+    fn push(&mut self, line: &'a [u8]) -> Result<(), AllocError>
+        ensures ok { OnOk result (self.new ≡ self.old ++ line.now ∷ []) }
+        ensures err { OnErr result (self.new ≡ self.old) }
+    {
+        let Ok(number) = u32::try_from(self.lines.len()) else {
+            return Err(AllocError);
+        };
+        self.lines.reserve(1)?;
+        if !self.numbers.contains_key(line) {
+            self.numbers.insert(line, Name(number))?;
+        }
+        self.lines.push(line)?;
+        Ok(())
+    }
+
+    /// The built-in names alone.
+    pub fn built_in(alloc: Global) -> Result<NameList<'a>, AllocError>
+        ensures { IfOk result (λ l. l ≡ builtin_lines 19) }
+    {
+        let mut list = NameList::empty(alloc);
+        for number in 0..BUILTIN_NAMES as u32 {
+            if let Some(name) = BuiltinType::text(Name(number)) {
+                list.push(name.as_bytes())?;
+            }
+        }
+        Ok(list)
+    }
+
+    /// A name that no line is equal to gets the next line; any other name has its line already. It fails where memory
+    /// is wanting, or no number is left, and then the list stays as it is.
+    pub fn add(&mut self, name: &'a [u8]) -> Result<(), AllocError>
+        ensures ok { OnOk result (Grows self.old name.now self.new) }
+        ensures err { OnErr result (self.new ≡ self.old) }
+    {
+        if self.number(name).is_some() {
+            return Ok(());
+        }
+        self.push(name)
+    }
+
+    /// The name's number, if the list has the name: its first line.
+    #[tactic(auto, using(crate::proofs::First::numbered))]
+    pub fn number(&self, name: &[u8]) -> Option<Name>
+        ensures value { result ≡ as_name (first self.now name.now 0) }
+        ensures earliest { let at = IsLineAt self.now name.now in
+            MatchOption result (Never at) (λ n. FirstAt at n.0) }
+    {
+        self.numbers.get(name).copied()
     }
 
     /// The name of that number, if the list has one.
     pub fn text(&self, name: Name) -> Option<&'a [u8]>
-        ensures { held_by result ≡ slice_get (name_lines self.now) name.0 }
+        ensures { option_map (λ s. s.now) result ≡ slice_get self.now name.0 }
     {
-        let mut rest = self.bytes;
-        for number in 0..self.names {
-            let (line, after) = split_line(rest)?;
-            if number == name.0 {
-                return Some(line);
-            }
-            rest = after;
-        }
-        None
+        self.lines.get(name.0 as usize).copied()
     }
 }

@@ -1,9 +1,8 @@
 // A path written as text, its names by a name list.
-ghost use Rattle.std.specs.Prelude.{◌≡◌, Bool, ◌++◌, IfOk, Some, None, MatchOption, OnOk};
+ghost use Rattle.std.specs.Prelude.{◌≡◌, Bool, ◌++◌, IfOk, IfSome, OnOk, option_map};
 ghost use Rattle.path_text.specs.declared.mod_path.PathKind.TheVariants.{Super};
 ghost use Rattle.path_text.specs.Grammar.{supers, joined_to};
-ghost use Rattle.path_text.specs.Lists.{name_lines};
-ghost use Rattle.path_text.specs.Written.{gap, start_text, leads, names_text, after, all_of, written_of};
+ghost use Rattle.path_text.specs.Written.{gap, start_text, leads, names_text, after, all_of, written_of, Spells};
 
 use crate::mod_path::{ModPath, PathKind};
 use crate::name_list::NameList;
@@ -59,32 +58,38 @@ fn leads_names(kind: PathKind) -> bool
 }
 
 // Whether every name has a line.
+#[tactic(auto, using(crate::proofs::Writing::one_line))]
 fn write_names(
     out: &mut Vec<u8>,
     list: &NameList,
     led: bool,
     names: &[Name],
 ) -> Result<bool, AllocError>
-    ensures { IfOk result (λ all. after out.old.items (names_text (name_lines list.now) led names.now) ≡ all_of all out.new.items) }
+    ensures { IfOk result (λ all. after out.old.items (names_text list.now led names.now) ≡ all_of all out.new.items) }
 {
     let mut joins = led;
-    for name in names.iter() {
+    let mut rest = names;
+    while let Some((name, more)) = rest.split_first() {
         match list.text(*name) {
             Some(line) => write_word(out, joins, line)?,
             None => return Ok(false),
         }
         joins = true;
+        rest = more;
     }
     Ok(true)
 }
 
-/// The text of a path, if the list has all its names.
+/// The text of a path, if the list has all its names. Where some text stands for a path of that kind with these names,
+/// this one does.
 pub fn write_path(
     alloc: Global,
     list: &NameList,
     path: &ModPath,
 ) -> Result<Option<Vec<u8>>, AllocError>
-    ensures { IfOk result (λ o. MatchOption o (written_of (name_lines list.now) path.now.kind path.now.names.items ≡ None) (λ v. written_of (name_lines list.now) path.now.kind path.now.names.items ≡ Some v.items)) }
+    ensures value { IfOk result
+        (λ o. option_map (λ v. v.items) o ≡ written_of list.now path.now.kind path.now.names.items) }
+    ensures spells { IfOk result (λ o. IfSome o (λ v. Spells list.now path.now.kind path.now.names.items v.items)) }
 {
     let mut out = Vec::new(alloc);
     write_start(&mut out, path.kind)?;

@@ -1,5 +1,5 @@
-// The names that a file declares as a name list, and what a path was read as.
+// What a path was read as, for people and for programs.
 #![tactic(auto)]
 
-pub mod listing;
 pub mod show;
+pub mod told;

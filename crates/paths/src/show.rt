@@ -1,101 +1,51 @@
-// What a path was read as: for people, or one line for programs.
-ghost use Rattle.std.specs.Prelude.{◌≡◌};
+// A path by its kind and its numbers, as text: in one line for programs, and with the names for people.
+ghost use Rattle.std.specs.Prelude.{◌≡◌, ◌++◌, Some, vec_items};
 ghost use Rattle.path_text.specs.Laws.{level_of};
+ghost use Rattle.paths.specs.Shown.{kind_word, kind_text, each_after, dotted, path_words, path_line};
 
 use hir_def::Name;
 use path_text::mod_path::{ModPath, PathKind};
 use path_text::name_list::NameList;
-use path_text::write::write_path;
-use std::alloc::{AllocError, Global};
+use std::fmt;
 
-fn kind_word(kind: PathKind) -> &'static str {
+/// The kind as one word of a line: `plain`, `abs`, `crate`, `super:LEVEL` or `dollar:CRATE`.
+#[derive(Clone, Copy, Debug)]
+pub struct KindText(pub PathKind);
+
+/// The numbers of names, each with that text before it.
+#[derive(Clone, Copy, Debug)]
+pub struct Numbers<'a> {
+    pub names: &'a [Name],
+    pub before: &'a str,
+}
+
+/// The numbers of names with dots between them, or `-` for none.
+#[derive(Clone, Copy, Debug)]
+pub struct Dotted<'a>(pub &'a [Name]);
+
+/// A path as two words: its kind, and its numbers with dots between them.
+#[derive(Clone, Copy, Debug)]
+pub struct PathWords<'a>(pub &'a ModPath);
+
+/// A path as a line of words: `path`, its kind, its level and each of its numbers.
+#[derive(Clone, Copy, Debug)]
+pub struct PathLine<'a>(pub &'a ModPath);
+
+/// How a path begins, in one word.
+pub fn kind_word(kind: PathKind) -> &'static str
+    ensures { result.now ≡ kind_word kind }
+{
     match kind {
         PathKind::Plain => "plain",
         PathKind::Super(_) => "super",
         PathKind::Crate => "crate",
         PathKind::Abs => "abs",
-        PathKind::DollarCrate(_) => "$crate",
+        PathKind::DollarCrate(_) => "dollar",
     }
 }
 
-fn push_bytes(alloc: Global, out: &mut String, bytes: &[u8]) -> Result<(), AllocError> {
-    let text = String::from_utf8_lossy(alloc, bytes)?;
-    out.push_str(text.as_str())
-}
-
-// The text that the path is written as.
-fn push_text(
-    alloc: Global,
-    out: &mut String,
-    list: &NameList,
-    path: &ModPath,
-) -> Result<(), AllocError> {
-    match write_path(alloc, list, path)? {
-        Some(text) => push_bytes(alloc, out, text.as_slice()),
-        None => out.push_str("with a name that the list does not have"),
-    }
-}
-
-fn push_kind(out: &mut String, kind: PathKind) -> Result<(), AllocError> {
-    out.push_str(kind_word(kind))?;
-    match kind {
-        PathKind::Super(level) => write!(out, " of level {level}"),
-        _ => Ok(()),
-    }
-}
-
-// A name and its number.
-fn push_name(
-    alloc: Global,
-    out: &mut String,
-    list: &NameList,
-    name: Name,
-) -> Result<(), AllocError> {
-    if let Some(line) = list.text(name) {
-        push_bytes(alloc, out, line)?;
-        out.push_str(" ")?;
-    }
-    let number = name.0;
-    write!(out, "#{number}")
-}
-
-fn push_names(
-    alloc: Global,
-    out: &mut String,
-    list: &NameList,
-    names: &[Name],
-) -> Result<(), AllocError> {
-    for (i, name) in names.iter().enumerate() {
-        out.push_str(if i == 0 { ": " } else { ", " })?;
-        push_name(alloc, out, list, *name)?;
-    }
-    Ok(())
-}
-
-/// Writes a path and, below it, its kind and its names with their numbers. It fails for want of memory alone.
-pub fn push_path(
-    alloc: Global,
-    out: &mut String,
-    list: &NameList,
-    path: &ModPath,
-) -> Result<(), AllocError> {
-    out.push_str("path ")?;
-    push_text(alloc, out, list, path)?;
-    out.push_str("\n    read as ")?;
-    push_kind(out, path.kind)?;
-    push_names(alloc, out, list, path.names.as_slice())?;
-    out.push_str("\n")
-}
-
-fn push_numbers(out: &mut String, names: &[Name]) -> Result<(), AllocError> {
-    for name in names.iter() {
-        let number = name.0;
-        write!(out, " {number}")?;
-    }
-    Ok(())
-}
-
-fn level_of(kind: PathKind) -> u32
+/// How many `super` a path of that kind begins with.
+pub fn level_of(kind: PathKind) -> u32
     ensures { result ≡ level_of kind }
 {
     match kind {
@@ -104,11 +54,74 @@ fn level_of(kind: PathKind) -> u32
     }
 }
 
-/// Writes a path's kind, level and numbers as one line.
-pub fn push_path_line(out: &mut String, path: &ModPath) -> Result<(), AllocError> {
-    let kind = kind_word(path.kind);
-    let level = level_of(path.kind);
-    write!(out, "path {kind} {level}")?;
-    push_numbers(out, path.names.as_slice())?;
-    out.push_str("\n")
+impl fmt::Display for KindText {
+    ghost output = { λ k. Some (kind_text k.0) };
+
+    fn fmt<W: fmt::Write>(&self, f: &mut fmt::Formatter<W>) -> fmt::Result {
+        let word = kind_word(self.0);
+        match self.0 {
+            PathKind::Super(level) => write!(f, "{word}:{level}"),
+            PathKind::DollarCrate(krate) => {
+                let number = krate.0;
+                write!(f, "{word}:{number}")
+            }
+            _ => f.write_str(word),
+        }
+    }
+}
+
+#[tactic(auto, using(crate::proofs::Numbers::number_more, crate::proofs::Numbers::number_all))]
+impl<'a> fmt::Display for Numbers<'a> {
+    ghost output = { λ n. Some (each_after n.before.now n.names.now) };
+
+    fn fmt<W: fmt::Write>(&self, f: &mut fmt::Formatter<W>) -> fmt::Result {
+        let before = self.before;
+        for name in self.names.iter() {
+            let number = name.0;
+            write!(f, "{before}{number}")?;
+        }
+        Ok(())
+    }
+}
+
+impl<'a> fmt::Display for Dotted<'a> {
+    ghost output = { λ d. Some (dotted d.0.now) };
+
+    fn fmt<W: fmt::Write>(&self, f: &mut fmt::Formatter<W>) -> fmt::Result {
+        match self.0 {
+            [] => f.write_str("-"),
+            [first, rest @ ..] => {
+                let number = first.0;
+                let more = Numbers {
+                    names: rest,
+                    before: ".",
+                };
+                write!(f, "{number}{more}")
+            }
+        }
+    }
+}
+
+impl<'a> fmt::Display for PathWords<'a> {
+    ghost output = { λ p. Some (path_words p.0.now.kind (vec_items p.0.now.names)) };
+
+    fn fmt<W: fmt::Write>(&self, f: &mut fmt::Formatter<W>) -> fmt::Result {
+        let kind = KindText(self.0.kind);
+        let names = Dotted(self.0.names.as_slice());
+        write!(f, "{kind} {names}")
+    }
+}
+
+impl<'a> fmt::Display for PathLine<'a> {
+    ghost output = { λ p. Some (path_line p.0.now.kind (vec_items p.0.now.names)) };
+
+    fn fmt<W: fmt::Write>(&self, f: &mut fmt::Formatter<W>) -> fmt::Result {
+        let kind = kind_word(self.0.kind);
+        let level = level_of(self.0.kind);
+        let numbers = Numbers {
+            names: self.0.names.as_slice(),
+            before: " ",
+        };
+        write!(f, "path {kind} {level}{numbers}")
+    }
 }

@@ -99,13 +99,14 @@ mod tests {
     fn fault_of(rt: &(impl Abort + AllocGlobal), more: &[u8], names: u32) -> Result<usize, Fail> {
         let mut bytes = BUILT_IN.to_vec(rt.alloc())?;
         bytes.extend_from_slice(more)?;
-        match NameList::new(bytes.as_slice(), names) {
+        match NameList::new(rt.alloc(), bytes.as_slice(), names) {
             Ok(_) => Ok(99),
-            Err(fault) => {
+            Err(Failure::Refused(fault)) => {
                 let (number, line) = code(fault);
                 assert_eq!(rt; number, 8);
                 Ok(line)
             }
+            Err(Failure::Memory(e)) => Err(e.into()),
         }
     }
 
@@ -121,8 +122,8 @@ mod tests {
             "the last line is unfinished"
         );
         assert_eq!(rt; fault_of(&rt, b"", 3)?, 3, "fewer names than built-in ones");
-        assert!(rt; NameList::new(b"char\nboole\n", 2).is_err());
-        assert!(rt; NameList::new(b"", 0).is_err());
+        assert!(rt; NameList::new(rt.alloc(), b"char\nboole\n", 2).is_err());
+        assert!(rt; NameList::new(rt.alloc(), b"", 0).is_err());
         Ok(())
     }
 
@@ -130,7 +131,7 @@ mod tests {
     fn numbers_of_names(rt: HostRuntime) -> Result<(), Fail> {
         let mut bytes = BUILT_IN.to_vec(rt.alloc())?;
         bytes.extend_from_slice(b"a\nb\na\n\n")?;
-        let list = NameList::new(bytes.as_slice(), 23)
+        let list = NameList::new(rt.alloc(), bytes.as_slice(), 23)
             .ok()
             .ok_or("the list does not fit")?;
         assert_eq!(rt;
@@ -155,7 +156,7 @@ mod tests {
 
     fn read(rt: &HostRuntime, text: &[u8]) -> Result<Result<ModPath, Failure<TextFault>>, Fail> {
         let bytes = names(rt)?;
-        let list = NameList::new(bytes.as_slice(), 22)
+        let list = NameList::new(rt.alloc(), bytes.as_slice(), 22)
             .ok()
             .ok_or("the list does not fit")?;
         Ok(read_path(rt.alloc(), &list, text))
@@ -163,7 +164,7 @@ mod tests {
 
     fn written(rt: &HostRuntime, path: &ModPath) -> Result<Option<Vec<u8>>, Fail> {
         let bytes = names(rt)?;
-        let list = NameList::new(bytes.as_slice(), 22)
+        let list = NameList::new(rt.alloc(), bytes.as_slice(), 22)
             .ok()
             .ok_or("the list does not fit")?;
         let text = write_path(rt.alloc(), &list, path)?;

@@ -1,10 +1,11 @@
 // The rows of a world that tell of its index beside the tree.
-use crate::fields::{map, number, optional, styles};
 use hir_def::{CrateId, EnumId, EnumVariantId, ExternCrateId, MacroId, ModuleId, Name};
 use index_tables::keys::{CrateName, EnumName, MapName, ModuleName};
 use item_scope::index_data::{CallStyles, DefMapId, EnumVariant, ExternPrelude, MacroUse};
 use keyed::row::Row;
+use source_text::number::number;
 use std::alloc::{AllocError, Global};
+use world_commands::fields::{map, optional, styles};
 
 #[derive(Drop)]
 pub(crate) struct IndexRows {

@@ -1,10 +1,9 @@
 // Worlds as lines of text: tables, and commands that are answered from them, a line for a line.
 #![tactic(auto)]
 
-mod fields;
 mod index_rows;
 mod lines;
 mod play;
 mod tables;
 
-pub use play::answer;
+pub use play::answer_input;

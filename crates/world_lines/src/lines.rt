@@ -1,34 +1,23 @@
-// The lines of an input that say something.
-use std::alloc::{AllocError, Global};
+// The lines of an input that say something, one after the other.
+use std::alloc::Global;
+use std::io;
+use std::io::BufRead;
 
+/// A line, as its first word and what follows that word's blank. Bytes that are no text have no words.
 #[derive(Clone, Copy)]
 pub(crate) struct Line<'a> {
     /// Lines count from 1.
     pub number: usize,
-    pub text: &'a [u8],
+    pub verb: &'a str,
+    pub rest: &'a str,
 }
 
-impl<'a> Line<'a> {
-    // A line that is no text has no words.
-    fn as_str(self) -> &'a str {
-        std::str::from_utf8(self.text).unwrap_or("")
-    }
-
-    /// The first word of the line.
-    pub(crate) fn verb(self) -> &'a str {
-        match self.as_str().split_once(' ') {
-            Some((verb, _)) => verb,
-            None => self.as_str(),
-        }
-    }
-
-    /// What follows the first word and its blank.
-    pub(crate) fn rest(self) -> &'a str {
-        match self.as_str().split_once(' ') {
-            Some((_, rest)) => rest,
-            None => "",
-        }
-    }
+/// An input, and the line of it that was read last.
+#[derive(Drop)]
+pub(crate) struct Lines<R> {
+    input: R,
+    text: Vec<u8>,
+    number: usize,
 }
 
 // Empty lines, and lines that begin with `#`, say nothing.
@@ -36,16 +25,41 @@ fn is_said(text: &[u8]) -> bool {
     !text.is_empty() && text[0] != b'#'
 }
 
-/// The lines that say something.
-pub(crate) fn said(alloc: Global, text: &[u8]) -> Result<Vec<Line>, AllocError> {
-    let mut lines = Vec::new(alloc);
-    for (i, text) in text.split(|b| *b == b'\n').enumerate() {
-        if is_said(text) {
-            lines.push(Line {
-                number: i.saturating_add(1),
-                text,
-            })?;
+impl<R: BufRead + Drop> Lines<R> {
+    pub(crate) fn new(alloc: Global, input: R) -> Lines<R> {
+        Lines {
+            input,
+            text: Vec::new(alloc),
+            number: 0,
         }
     }
-    Ok(lines)
+
+    /// Goes on to the next line that says something, and answers whether there is one.
+    pub(crate) fn advance(&mut self) -> io::Result<bool> {
+        for _ in 0..u64::MAX {
+            self.text.clear();
+            if self.input.read_until(b'\n', &mut self.text)? == 0 {
+                return Ok(false);
+            }
+            self.number = self.number.saturating_add(1);
+            if self.text.last().copied() == Some(b'\n') {
+                let _ = self.text.pop();
+            }
+            if is_said(self.text.as_slice()) {
+                return Ok(true);
+            }
+        }
+        Ok(false)
+    }
+
+    /// The line that was read last.
+    pub(crate) fn line(&self) -> Line {
+        let text = std::str::from_utf8(self.text.as_slice()).unwrap_or("");
+        let (verb, rest) = text.split_once(' ').unwrap_or((text, ""));
+        Line {
+            number: self.number,
+            verb,
+            rest,
+        }
+    }
 }

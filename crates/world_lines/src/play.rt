@@ -1,203 +1,176 @@
-// One world after another: its tables are loaded at `go`, and its commands answered from them.
-use crate::fields::{number, visibility};
-use crate::lines::{Line, said};
-use crate::tables::Tables;
-use hir_def::fault::{Failure, Fault, FaultCode, TextFault};
-use hir_def::{ModuleId, Name};
-use index_tables::loaded_tables::LoadedTables;
-use path_text::mod_path::{ModPath, PathKind};
-use path_text::name_list::NameList;
-use path_text::read::read_path;
-use std::alloc::{AllocError, Global};
-use std::fmt::Write;
+// One world after another: its tables are loaded at `go`, and its commands answered from them, a line for a line.
+use crate::lines::{Line, Lines};
+use crate::tables::{Make, Tables};
+use hir_def::fault::{Failure, Fault};
+use indexes::ledger_index::{FREE_LEDGER_ROW, LedgerIndex};
+use indexes::table_index::{FREE_PLACE_ROW, TableIndex};
+use item_scope::index::Recipient;
+use std::alloc::Global;
 use std::hash::{BuildHasherDefault, FoldHasher};
+use std::io;
+use std::io::{BufRead, Write};
+use world_commands::answer::Answer;
+use world_commands::command::Command;
+use world_commands::world::World;
 
-fn push_bad(out: &mut String, line: Line) -> Result<(), AllocError> {
-    let number = line.number;
+fn write_bad<W: Write>(out: &mut W, number: usize) -> io::Result<()> {
     writeln!(out, "bad line {number}")
 }
 
-fn push_refused(out: &mut String, fault: Fault) -> Result<(), AllocError> {
-    let FaultCode {
-        layer,
-        number,
-        place,
-    } = fault.code();
-    writeln!(out, "refused {layer} {number} {place}")
+fn answer_line<I: Recipient + Drop, W: Write>(
+    alloc: Global,
+    out: &mut W,
+    world: &mut World<I>,
+    line: Line,
+) -> io::Result<()> {
+    match Command::parse(alloc, line.verb, line.rest)? {
+        Some(command) => {
+            let answer = world.answer(alloc, &command)?;
+            writeln!(out, "{answer}")
+        }
+        None => write_bad(out, line.number),
+    }
 }
 
-fn push_kind(out: &mut String, kind: PathKind) -> Result<(), AllocError> {
-    match kind {
-        PathKind::Plain => out.push_str("plain"),
-        PathKind::Super(level) => write!(out, "super:{level}"),
-        PathKind::Crate => out.push_str("crate"),
-        PathKind::Abs => out.push_str("abs"),
-        PathKind::DollarCrate(krate) => {
-            let krate = krate.0;
-            write!(out, "dollar:{krate}")
+// Answers each line up to the next world, and whether there is one.
+fn answer_all<I: Recipient + Drop, R: BufRead + Drop, W: Write>(
+    alloc: Global,
+    lines: &mut Lines<R>,
+    out: &mut W,
+    world: &mut World<I>,
+) -> io::Result<bool> {
+    for _ in 0..u64::MAX {
+        if !lines.advance()? {
+            return Ok(false);
+        }
+        let line = lines.line();
+        if line.verb == "world" {
+            return Ok(true);
+        }
+        answer_line(alloc, out, world, line)?;
+    }
+    Ok(false)
+}
+
+// A refused load is told at `go`, and again for each line up to the next world.
+fn refuse_all<R: BufRead + Drop, W: Write>(
+    lines: &mut Lines<R>,
+    out: &mut W,
+    fault: Fault,
+) -> io::Result<bool> {
+    let answer = Answer::Refused(fault);
+    for _ in 0..u64::MAX {
+        writeln!(out, "{answer}")?;
+        if !lines.advance()? {
+            return Ok(false);
+        }
+        if lines.line().verb == "world" {
+            return Ok(true);
         }
     }
+    Ok(false)
 }
 
-fn push_names(out: &mut String, names: &[Name]) -> Result<(), AllocError> {
-    if names.is_empty() {
-        return out.push_str("-");
-    }
-    for (i, name) in names.iter().enumerate() {
-        if i > 0 {
-            out.push_str(".")?;
-        }
-        let number = name.0;
-        write!(out, "{number}")?;
-    }
-    Ok(())
-}
-
-fn push_path(out: &mut String, path: &ModPath) -> Result<(), AllocError> {
-    out.push_str("read ")?;
-    push_kind(out, path.kind)?;
-    out.push_str(" ")?;
-    push_names(out, path.names.as_slice())?;
-    out.push_str("\n")
-}
-
-// What the commands of a world are answered from.
-#[derive(Clone, Copy)]
-struct World<'a, 'b, 'c> {
-    loaded: &'b LoadedTables<'a, BuildHasherDefault<FoldHasher>>,
-    list: Result<NameList<'c>, TextFault>,
-}
-
-fn read(alloc: Global, world: World, text: &[u8]) -> Result<ModPath, Failure<TextFault>> {
-    read_path(alloc, &world.list?, text)
-}
-
-fn push_read(alloc: Global, out: &mut String, world: World, text: &[u8]) -> Result<(), AllocError> {
-    match read(alloc, world, text) {
-        Ok(path) => push_path(out, &path),
-        Err(Failure::Refused(fault)) => push_refused(out, Fault::from(fault)),
-        Err(Failure::Memory(e)) => Err(e),
-    }
-}
-
-// `read HEX`, or `read -` for no bytes.
-fn answer_read(
+// Answers each line from a loaded index, or refuses it, up to the next world, and whether there is one.
+fn answer_loaded<I: Recipient + Drop, R: BufRead + Drop, W: Write>(
     alloc: Global,
-    out: &mut String,
-    world: World,
-    line: Line,
-) -> Result<(), AllocError> {
-    if line.rest() == "-" {
-        return push_read(alloc, out, world, b"");
-    }
-    match hex::decode(alloc, line.rest()) {
-        Ok(bytes) => push_read(alloc, out, world, bytes.as_slice()),
-        Err(_) => push_bad(out, line),
-    }
-}
-
-// `sight VISIBILITY MODULE`. The answer is given twice, as the two tests of the ported crate give it.
-fn answer_sight(out: &mut String, world: World, line: Line) -> Result<(), AllocError> {
-    let Some((sight, module)) = line.rest().split_once(' ') else {
-        return push_bad(out, line);
-    };
-    let (Some(sight), Some(module)) = (visibility(sight), number(module)) else {
-        return push_bad(out, line);
-    };
-    match sight.is_visible_from(world.loaded, ModuleId(module)) {
-        Ok(true) => out.push_str("sight 1 1\n"),
-        Ok(false) => out.push_str("sight 0 0\n"),
-        Err(fault) => push_refused(out, Fault::from(fault)),
-    }
-}
-
-fn answer_line(
-    alloc: Global,
-    out: &mut String,
-    world: World,
-    line: Line,
-) -> Result<(), AllocError> {
-    match line.verb() {
-        "read" => answer_read(alloc, out, world, line),
-        "sight" => answer_sight(out, world, line),
-        _ => push_bad(out, line),
-    }
-}
-
-// A refused load is told at `go`, and again for each command.
-fn refuse_all(out: &mut String, fault: Fault, commands: &[Line]) -> Result<(), AllocError> {
-    push_refused(out, fault)?;
-    for _ in commands {
-        push_refused(out, fault)?;
-    }
-    Ok(())
-}
-
-fn answer_all(
-    alloc: Global,
-    out: &mut String,
-    world: World,
-    commands: &[Line],
-) -> Result<(), AllocError> {
-    for line in commands {
-        answer_line(alloc, out, world, *line)?;
-    }
-    Ok(())
-}
-
-fn play_commands(
-    alloc: Global,
-    out: &mut String,
-    tables: Tables,
-    commands: &[Line],
-) -> Result<(), AllocError> {
-    let names = tables.names;
-    let text = tables.names_text(alloc)?;
-    let crates = tables.crates(alloc)?;
-    let mut loaded = LoadedTables::new(alloc, BuildHasherDefault::new())?;
-    match loaded.load(alloc, tables.lend(crates.as_slice())) {
+    lines: &mut Lines<R>,
+    out: &mut W,
+    list: &[u8],
+    index: I,
+    loaded: Result<(), Failure<Fault>>,
+) -> io::Result<bool> {
+    match loaded {
         Ok(()) => {
-            let world = World {
-                loaded: &loaded,
-                list: NameList::new(text.as_slice(), names),
-            };
-            answer_all(alloc, out, world, commands)
+            let mut world = World::new(alloc, index, list)?;
+            answer_all(alloc, lines, out, &mut world)
         }
-        Err(Failure::Refused(fault)) => refuse_all(out, fault, commands),
-        Err(Failure::Memory(e)) => Err(e),
+        Err(Failure::Refused(fault)) => refuse_all(lines, out, fault),
+        Err(Failure::Memory(e)) => Err(io::Error::from(e)),
     }
 }
 
-// A world: its name, which is echoed, its tables up to `go`, and its commands.
-fn play(alloc: Global, out: &mut String, lines: &[Line]) -> Result<(), AllocError> {
+// Loads the tables into the index that the world asks for, and answers each line up to the next world, and whether there is
+// one.
+fn play_commands<R: BufRead + Drop, W: Write>(
+    alloc: Global,
+    lines: &mut Lines<R>,
+    out: &mut W,
+    tables: &Tables,
+) -> io::Result<bool> {
+    let list = tables.names_text(alloc)?;
+    let list = list.as_slice();
+    let crates = tables.crates(alloc)?;
+    let lent = tables.lend(crates.as_slice());
+    let hashers = BuildHasherDefault::<FoldHasher>::new();
+    let count = tables.rows as usize;
+    match tables.make {
+        Make::Table => {
+            let mut rows = vec![in alloc; FREE_PLACE_ROW; count]?;
+            let mut index = TableIndex::new(alloc, hashers, rows.as_mut_slice())?;
+            let loaded = index.load(alloc, lent);
+            answer_loaded(alloc, lines, out, list, index, loaded)
+        }
+        Make::Ledger => {
+            let mut rows = vec![in alloc; FREE_LEDGER_ROW; count]?;
+            let mut index = LedgerIndex::new(alloc, hashers, rows.as_mut_slice())?;
+            let loaded = index.load(alloc, lent);
+            answer_loaded(alloc, lines, out, list, index, loaded)
+        }
+    }
+}
+
+// The name of a world is echoed. Answers whether a line follows.
+fn begin<R: BufRead + Drop, W: Write>(lines: &mut Lines<R>, out: &mut W) -> io::Result<bool> {
+    let line = lines.line();
+    if line.verb != "world" {
+        return Ok(true);
+    }
+    let label = line.rest;
+    writeln!(out, "world {label}")?;
+    lines.advance()
+}
+
+// A world from its first line on: its tables up to `go`, and its commands. Answers whether a further world begins.
+fn play<R: BufRead + Drop, W: Write>(
+    alloc: Global,
+    lines: &mut Lines<R>,
+    out: &mut W,
+) -> io::Result<bool> {
     let mut tables = Tables::new(alloc);
-    for (i, line) in lines.iter().enumerate() {
-        match line.verb() {
-            "world" => {
-                out.push_str("world ")?;
-                out.push_str(line.rest())?;
-                out.push_str("\n")?;
-            }
-            "go" => return play_commands(alloc, out, tables, &lines[i + 1..]),
+    let mut goes_on = begin(lines, out)?;
+    for _ in 0..u64::MAX {
+        if !goes_on {
+            return Ok(false);
+        }
+        let line = lines.line();
+        match line.verb {
+            "world" => return Ok(true),
+            "go" if line.rest.is_empty() => return play_commands(alloc, lines, out, &tables),
             _ => {
-                if !tables.read(alloc, *line)? {
-                    push_bad(out, *line)?;
+                if !tables.read(alloc, line)? {
+                    write_bad(out, line.number)?;
                 }
             }
         }
+        goes_on = lines.advance()?;
     }
-    Ok(())
+    Ok(false)
 }
 
-/// Answers a whole input, a line for each command.
-pub fn answer(alloc: Global, text: &[u8], out: &mut String) -> Result<(), AllocError> {
-    let lines = said(alloc, text)?;
-    let mut from = 0;
-    for (i, line) in lines.iter().enumerate() {
-        if line.verb() == "world" && from < i {
-            play(alloc, out, &lines.as_slice()[from..i])?;
-            from = i;
+/// Answers a whole input, a line for each command. It keeps one world and one line at a time.
+pub fn answer_input<R: BufRead + Drop, W: Write>(
+    alloc: Global,
+    input: R,
+    out: &mut W,
+) -> io::Result<()> {
+    let mut lines = Lines::new(alloc, input);
+    let mut goes_on = lines.advance()?;
+    for _ in 0..u64::MAX {
+        if !goes_on {
+            break;
         }
+        goes_on = play(alloc, &mut lines, out)?;
     }
-    play(alloc, out, &lines.as_slice()[from..])
+    out.flush()
 }

@@ -1,5 +1,4 @@
 // The tables of a world, as its lines tell them.
-use crate::fields::{number, optional};
 use crate::index_rows::IndexRows;
 use crate::lines::Line;
 use hir_def::builtin_type::BuiltinType;
@@ -8,8 +7,13 @@ use hir_def::{BlockId, CrateId, ModuleId, Name};
 use index_tables::loaded_tables::{IndexTables, NAMES};
 use nameres::tree_rows;
 use nameres::tree_rows::{BlockRow, CrateRow, ModuleRow};
+use source_text::number::number;
 use std::alloc::{AllocError, Global};
 use std::fmt::Write;
+use world_commands::fields::{bytes, optional};
+
+// How many rows a world has that does not say it.
+const ROWS: u32 = 65_536;
 
 /// What the name list of a world is made of.
 #[derive(Drop)]
@@ -19,12 +23,22 @@ enum List {
     Told(Vec<u8>),
 }
 
+/// Which make of an index answers.
+#[derive(Clone, Copy, PartialEq, Eq, Debug)]
+pub(crate) enum Make {
+    Table,
+    Ledger,
+}
+
 #[derive(Drop)]
 pub(crate) struct Tables {
+    pub make: Make,
+    /// How many rows the index is lent for its places.
+    pub rows: u32,
     pub modules: Vec<ModuleRow>,
     pub blocks: Vec<BlockRow>,
     editions: Vec<Edition>,
-    pub names: u32,
+    names: u32,
     list: List,
     pub index: IndexRows,
 }
@@ -52,6 +66,14 @@ fn block_row(rest: &str) -> Option<BlockRow> {
     })
 }
 
+fn make_of(rest: &str) -> Option<Make> {
+    match rest {
+        "table" => Some(Make::Table),
+        "ledger" => Some(Make::Ledger),
+        _ => None,
+    }
+}
+
 fn push_numbered(alloc: Global, lines: &mut Vec<u8>, name: u32) -> Result<(), AllocError> {
     if let Some(text) = BuiltinType::text(Name(name)) {
         lines.extend_from_slice(text.as_bytes())?;
@@ -66,6 +88,8 @@ fn push_numbered(alloc: Global, lines: &mut Vec<u8>, name: u32) -> Result<(), Al
 impl Tables {
     pub(crate) fn new(alloc: Global) -> Tables {
         Tables {
+            make: Make::Table,
+            rows: ROWS,
             modules: Vec::new(alloc),
             blocks: Vec::new(alloc),
             editions: Vec::new(alloc),
@@ -76,23 +100,19 @@ impl Tables {
     }
 
     fn told_list(&mut self, alloc: Global, rest: &str) -> Result<bool, AllocError> {
-        if rest == "-" {
-            self.list = List::Told(Vec::new(alloc));
-            return Ok(true);
-        }
-        match hex::decode(alloc, rest) {
-            Ok(bytes) => {
+        match bytes(alloc, rest)? {
+            Some(bytes) => {
                 self.list = List::Told(bytes);
                 Ok(true)
             }
-            Err(_) => Ok(false),
+            None => Ok(false),
         }
     }
 
     /// Takes in one line of the tables, or answers that it is none.
     pub(crate) fn read(&mut self, alloc: Global, line: Line) -> Result<bool, AllocError> {
-        let rest = line.rest();
-        match line.verb() {
+        let rest = line.rest;
+        match line.verb {
             "crate" => match rest.parse::<Edition>().ok() {
                 Some(edition) => self.editions.push(edition)?,
                 None => return Ok(false),
@@ -107,6 +127,14 @@ impl Tables {
             },
             "names" => match number(rest) {
                 Some(names) => self.names = names,
+                None => return Ok(false),
+            },
+            "make" => match make_of(rest) {
+                Some(make) => self.make = make,
+                None => return Ok(false),
+            },
+            "rows" => match number(rest) {
+                Some(rows) => self.rows = rows,
                 None => return Ok(false),
             },
             "list" => return self.told_list(alloc, rest),

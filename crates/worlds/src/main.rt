@@ -2,22 +2,23 @@
 #![tactic(auto)]
 
 use std::io;
-use std::io::Read;
+use std::io::{BufReader, BufWriter};
 use std::process::ExitCode;
-use world_lines::answer;
+use world_lines::answer_input;
+
+fn answer(rt: &HostRuntime) -> io::Result<()> {
+    let input = BufReader::new(rt.alloc(), rt.stdin())?;
+    let mut out = BufWriter::new(rt.alloc(), io::writer(rt))?;
+    answer_input(rt.alloc(), input, &mut out)
+}
 
 fn main(rt: HostRuntime) -> io::Result<ExitCode> {
-    let mut text = Vec::new(rt.alloc());
-    let mut input = rt.stdin();
-    input.read_to_end(&mut text)?;
-    let mut out = String::new(rt.alloc());
-    match answer(rt.alloc(), text.as_slice(), &mut out) {
-        Ok(()) => {
-            rt.print(out.as_str())?;
-            Ok(ExitCode::SUCCESS)
-        }
-        Err(_) => {
-            rt.eprintln("worlds: out of memory")?;
+    match answer(&rt) {
+        Ok(()) => Ok(ExitCode::SUCCESS),
+        // A reader that goes away ends the program quietly.
+        Err(e) if e.kind() == io::ErrorKind::BrokenPipe => Ok(ExitCode::SUCCESS),
+        Err(e) => {
+            eprintln!(rt; "worlds: {e}")?;
             Ok(ExitCode::FAILURE)
         }
     }

@@ -1,6 +1,6 @@
 use Rattle.std.proofs.Common.{◌∙◌}
 use Rattle.std.proofs.lemmas.Slice.Eq.{slice_eq-Decides}
-use Rattle.path_text.proofs.Turns.{good-built-in}
+use Rattle.path_text.proofs.Lines.{good-built-in}
 use Rattle.path_text.proofs.name_list.is_good_line.Goals as goal
 use Rattle.std.proofs.lemmas.Bool.Decides.{Decides-eqb}
 

@@ -1,0 +1,104 @@
+// The command line of feqhazo.
+#![tactic(auto)]
+
+use clap::{Arg, ArgAction, Command, Error};
+use std::alloc::{AllocError, Global};
+
+/// How a report is written.
+#[derive(Clone, Copy, PartialEq, Eq, Debug)]
+pub enum Format {
+    /// For people.
+    Text,
+    /// A line of words for each statement.
+    Lines,
+    /// An object a line.
+    Json,
+}
+
+/// What the program is asked to do.
+#[derive(Debug, Drop)]
+pub struct Options<'a> {
+    pub format: Format,
+    /// The name of each module that sees an item, however many there are.
+    pub all: bool,
+    /// How far the program has come, on standard error.
+    pub progress: bool,
+    /// The files to read, one at least; `-` is standard input.
+    pub files: Vec<&'a str>,
+}
+
+/// The kit that the program was proved with, as `rt version` names it.
+pub const VERSION: &str = "0.1, proved with rattle-kit-13f logic dac8208d650f15bf";
+
+const ABOUT: &str =
+    "Reads firmware trees with their items and paths, and prints which modules may see each item and what each path was read as";
+
+static FORMATS: [&str; 3] = ["text", "lines", "json"];
+
+fn format_of(text: &str) -> Format {
+    match text {
+        "lines" => Format::Lines,
+        "json" => Format::Json,
+        _ => Format::Text,
+    }
+}
+
+fn format_argument<'a>(alloc: Global) -> Result<Arg<'a>, AllocError> {
+    Arg::new(alloc, "format")
+        .long("format")
+        .value_name("FORMAT")
+        .value_parser(FORMATS.as_slice())
+        .help(
+            "How the report is written: for people, in lines of words, or as JSON, an object a line",
+        )
+        .conflicts_with("lines")
+}
+
+fn flag<'a>(alloc: Global, name: &'a str, help: &'a str) -> Arg<'a> {
+    Arg::new(alloc, name)
+        .long(name)
+        .action(ArgAction::SetTrue)
+        .help(help)
+}
+
+fn command<'a>(alloc: Global) -> Result<Command<'a>, AllocError> {
+    let files = Arg::new(alloc, "FILE")
+        .required(true)
+        .num_args(1..)
+        .help("The files to read; - is standard input");
+    Command::new(alloc, "feqhazo")
+        .version(VERSION)
+        .about(ABOUT)
+        .arg(files)?
+        .arg(format_argument(alloc)?)?
+        .arg(flag(alloc, "lines", "Short for --format lines"))?
+        .arg(flag(
+            alloc,
+            "all",
+            "Name each module that sees an item, however many there are",
+        ))?
+        .arg(flag(
+            alloc,
+            "progress",
+            "Say on standard error how far it has come",
+        ))
+}
+
+/// The options that the words of a command line say, the program's name first. Where they say none, or ask for help or the
+/// version, the error has the text and the status.
+pub fn read_options<'a>(alloc: Global, words: &'a [String]) -> Result<Options<'a>, Error> {
+    let matches = command(alloc)?.try_get_matches_from(words)?;
+    let format = if matches.get_flag("lines") {
+        Format::Lines
+    } else {
+        format_of(matches.get_str("format").unwrap_or("text"))
+    };
+    let mut files = Vec::new(alloc);
+    files.extend_from_slice(matches.get_strs("FILE").unwrap_or(&[]))?;
+    Ok(Options {
+        format,
+        all: matches.get_flag("all"),
+        progress: matches.get_flag("progress"),
+        files,
+    })
+}

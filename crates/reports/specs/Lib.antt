@@ -1,0 +1,5 @@
+pub mod Ranges
+pub mod Shown
+pub mod Counts
+pub mod Told
+pub mod Json

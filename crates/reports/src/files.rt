@@ -1,0 +1,128 @@
+// Reports on several files: all of them are taken before anything is written.
+ghost use Rattle.std.specs.Prelude.{◌≡◌};
+ghost use Rattle.reports.specs.declared.files.ReportError.TheVariants.{Memory, Write};
+
+use crate::report::{Form, Style, write_heading, write_report};
+use firmware::reader::Firmware;
+use firmware::survey::Survey;
+use firmware::trouble::{Located, Trouble};
+use hir_def::fault::Failure;
+use std::alloc::{AllocError, AllocFailed, Global};
+use std::io;
+
+/// A file as it was read.
+#[derive(Debug, Drop)]
+pub struct File<'a> {
+    pub path: &'a str,
+    pub text: Vec<u8>,
+}
+
+/// Why there is no report, or no whole one.
+#[derive(Drop)]
+pub enum ReportError<'a> {
+    /// A file is not taken; nothing was written.
+    Refused(Located<'a>),
+    Memory(AllocError),
+    /// The report could not be written.
+    Write(io::Error),
+}
+
+impl<'a> From<AllocError> for ReportError<'a> {
+    ghost from_gives = { λ e r. r ≡ Memory e };
+
+    fn from(e: AllocError) -> ReportError<'a> {
+        ReportError::Memory(e)
+    }
+}
+
+impl<'a, T: Drop> From<AllocFailed<T>> for ReportError<'a> {
+    fn from(e: AllocFailed<T>) -> ReportError<'a> {
+        ReportError::Memory(AllocError::from(e))
+    }
+}
+
+impl<'a> From<io::Error> for ReportError<'a> {
+    ghost from_gives = { λ e r. r ≡ Write e };
+
+    fn from(e: io::Error) -> ReportError<'a> {
+        ReportError::Write(e)
+    }
+}
+
+fn error_of<'a>(file: &'a File<'a>, failure: Failure<Trouble>) -> ReportError<'a> {
+    match failure {
+        Failure::Refused(trouble) => ReportError::Refused(Located {
+            path: file.path,
+            text: file.text.as_slice(),
+            trouble,
+        }),
+        Failure::Memory(e) => ReportError::Memory(e),
+    }
+}
+
+fn read_all<'a>(
+    alloc: Global,
+    files: &'a [File<'a>],
+) -> Result<Vec<Firmware<'a>>, ReportError<'a>> {
+    let mut read = Vec::new(alloc);
+    for file in files {
+        match Firmware::read(alloc, file.text.as_slice()) {
+            Ok(firmware) => read.push(firmware)?,
+            Err(failure) => return Err(error_of(file, failure)),
+        }
+    }
+    Ok(read)
+}
+
+// Of each file what it declares and whether that is taken. Files and firmwares stand side by side.
+fn survey_all<'f, 'a>(
+    alloc: Global,
+    files: &'a [File<'a>],
+    read: &'f [Firmware<'a>],
+) -> Result<Vec<Survey<'f, 'a>>, ReportError<'a>> {
+    let mut surveys = Vec::new(alloc);
+    for (firmware, file) in read.iter().zip(files) {
+        match Survey::of(alloc, firmware) {
+            Ok(survey) => surveys.push(survey)?,
+            Err(failure) => return Err(error_of(file, failure)),
+        }
+    }
+    Ok(surveys)
+}
+
+// Each file is reported by itself, under a heading where there are several.
+fn write_all<W: io::Write, E: io::Write>(
+    alloc: Global,
+    w: &mut W,
+    progress: &mut E,
+    files: &[File],
+    surveys: &[Survey],
+    style: Style,
+) -> io::Result<()> {
+    let headed = files.len() > 1 || style.form == Form::Json;
+    for (i, (survey, file)) in surveys.iter().zip(files).enumerate() {
+        if i > 0 && style.form == Form::Text {
+            write!(w, "\n")?;
+        }
+        if headed {
+            write_heading(alloc, w, file.path, survey, style.form)?;
+        }
+        write_report(alloc, w, progress, file.path, survey, style)?;
+    }
+    w.flush()
+}
+
+/// Reads all files and writes the report on each, or says why not. How far it has come goes to `progress`, if the style asks
+/// for it.
+pub fn report_files<'a, W: io::Write, E: io::Write>(
+    alloc: Global,
+    w: &mut W,
+    progress: &mut E,
+    files: &'a [File<'a>],
+    style: Style,
+) -> Result<(), ReportError<'a>> {
+    let read = read_all(alloc, files)?;
+    let surveys = survey_all(alloc, files, read.as_slice())?;
+    write_all(alloc, w, progress, files, surveys.as_slice(), style)?;
+    Ok(())
+}

@@ -1,0 +1,5 @@
+use Rattle.std.proofs.Common.{length}
+use Rattle.source_text.proofs.excerpt.MarginDisplay.fmt.Given as goal
+
+abbrev pub decreases-loop-cell : goal.decreases-loop-cell
+decreases-loop-cell g l = length l.rest

@@ -1,0 +1,160 @@
+// A world: an index and its names, from which commands are answered.
+ghost use Rattle.std.specs.Prelude.{◌≡◌, IfOk};
+ghost use Rattle.path_text.specs.Lists.{made_of};
+ghost use Rattle.path_resolution.specs.Questions.{answered};
+ghost use Rattle.entries.specs.Visibilities.{asked};
+ghost use Rattle.item_scope.specs.Deliveries.{Takes};
+ghost use Rattle.world_commands.specs.Answers.{delivery_answer, taken_of, ask_answer, place_answer, place_asked, sight_answer, ReadAnswer, AskTextAnswer, AnswerTo, After};
+
+use crate::answer::Answer;
+use crate::command::Command;
+use entries::visibility::Visibility;
+use hir_def::fault::{Failure, Fault, IndexFault, TextFault};
+use hir_def::{ModuleId, Name};
+use item_scope::delivery::Delivery;
+use item_scope::index::{Index, Recipient, deliver};
+use path_resolution::path_resolution::resolve_path_fp_with_macro;
+use path_resolution::question::Question;
+use path_text::mod_path::ModPath;
+use path_text::name_list::NameList;
+use path_text::read::read_path;
+use std::alloc::{AllocError, Global};
+
+/// An index, and the bytes of a name list with the list that they make for the index, or why they make none.
+#[derive(Drop)]
+pub struct World<'n, I: Recipient + Drop> {
+    index: I,
+    list: &'n [u8],
+    names: Result<NameList<'n>, TextFault>,
+    ghost made: { names ≡ made_of list.now (I.view index).fixed.names },
+}
+
+// The list of that many names that the bytes make, or why they make none.
+fn names_of(
+    alloc: Global,
+    list: &[u8],
+    names: u32,
+) -> Result<Result<NameList, TextFault>, AllocError>
+    ensures { IfOk result (λ made. made ≡ made_of list.now names) }
+{
+    match NameList::new(alloc, list, names) {
+        Ok(list) => Ok(Ok(list)),
+        Err(Failure::Refused(fault)) => Ok(Err(fault)),
+        Err(Failure::Memory(e)) => Err(e),
+    }
+}
+
+#[tactic(auto, using(crate::proofs::Fixed::names))]
+fn delivered<I: Recipient>(index: &mut I, delivery: Delivery) -> Answer
+    ensures answers { result ≡ delivery_answer (taken_of (I.view index.old) (I.left index.old) delivery) }
+    ensures after { let v = I.view index.old in let left = I.left index.old in
+        Takes v left delivery (taken_of v left delivery) (I.view index.new) (I.left index.new) }
+    ensures names { (I.view index.new).fixed.names ≡ (I.view index.old).fixed.names }
+{
+    match deliver(index, delivery) {
+        Ok(changed) => Answer::Delivered(changed),
+        Err(fault) => Answer::Refused(Fault::Index(fault)),
+    }
+}
+
+fn ask<I: Index>(index: &I, question: Question, path: &ModPath) -> Answer
+    ensures { result ≡ ask_answer (answered (I.view index.now) question path.now.kind path.now.names.items) }
+{
+    match resolve_path_fp_with_macro(index, question, path) {
+        Ok(answer) => Answer::Asked(answer),
+        Err(fault) => Answer::Refused(Fault::Path(fault)),
+    }
+}
+
+fn place<I: Index>(index: &I, at: ModuleId, name: Name) -> Answer
+    ensures { result ≡ place_answer (place_asked (I.view index.now) at name) }
+{
+    if at.0 >= index.modules() {
+        return Answer::Refused(Fault::Index(IndexFault::NoModule));
+    }
+    if name.0 >= index.names() {
+        return Answer::Refused(Fault::Index(IndexFault::NoName));
+    }
+    Answer::Place(index.get(at, name))
+}
+
+fn sight<I: Index>(index: &I, vis: Visibility, from: ModuleId) -> Answer
+    ensures { result ≡ sight_answer (asked (I.view index.now).fixed.tree from vis) }
+{
+    match vis.is_visible_from(index, from) {
+        Ok(seen) => Answer::Sight(seen),
+        Err(fault) => Answer::Refused(Fault::Tree(fault)),
+    }
+}
+
+fn read(
+    alloc: Global,
+    names: &Result<NameList, TextFault>,
+    text: &[u8],
+) -> Result<Answer, AllocError>
+    ensures { ReadAnswer names.now text.now result }
+{
+    let list = match names {
+        Ok(list) => list,
+        Err(fault) => return Ok(Answer::Refused(Fault::Text(*fault))),
+    };
+    match read_path(alloc, list, text) {
+        Ok(path) => Ok(Answer::Read(path)),
+        Err(Failure::Refused(fault)) => Ok(Answer::Refused(Fault::Text(fault))),
+        Err(Failure::Memory(e)) => Err(e),
+    }
+}
+
+fn ask_text<I: Index>(
+    alloc: Global,
+    index: &I,
+    question: Question,
+    names: &Result<NameList, TextFault>,
+    text: &[u8],
+) -> Result<Answer, AllocError>
+    ensures { AskTextAnswer (I.view index.now) question names.now text.now result }
+{
+    let list = match names {
+        Ok(list) => list,
+        Err(fault) => return Ok(Answer::Refused(Fault::Text(*fault))),
+    };
+    match read_path(alloc, list, text) {
+        Ok(path) => Ok(ask(index, question, &path)),
+        Err(Failure::Refused(fault)) => Ok(Answer::Refused(Fault::Text(fault))),
+        Err(Failure::Memory(e)) => Err(e),
+    }
+}
+
+impl<'n, I: Recipient + Drop> World<'n, I> {
+    /// A world of an index and the bytes of its name list, which may make none for it. Fails where memory is wanting.
+    pub fn new(alloc: Global, index: I, list: &'n [u8]) -> Result<Self, AllocError>
+        ensures index { IfOk result (λ w. w.index ≡ index) }
+        ensures list { IfOk result (λ w. w.list.now ≡ list.now) }
+    {
+        let names = names_of(alloc, list, index.names())?;
+        Ok(World { index, list, names })
+    }
+
+    /// The answer to a command. Text is read by a list of exactly the index's names, and refused where the bytes make
+    /// none. A delivery that is taken changes the index, and nothing else does.
+    pub fn answer(&mut self, alloc: Global, command: &Command) -> Result<Answer, AllocError>
+        ensures answers { let i = self.old.index in
+            AnswerTo (I.view i) (I.left i) self.old.list.now command.now result }
+        ensures after { let i = self.old.index in let j = self.new.index in
+            After (I.view i) (I.left i) command.now (I.view j) (I.left j) }
+        ensures list { self.new.list.now ≡ self.old.list.now }
+    {
+        let index = &self.index;
+        match command {
+            Command::Deliver(delivery) => Ok(delivered(&mut self.index, *delivery)),
+            Command::Ask(question, path) => Ok(ask(index, *question, path)),
+            Command::AskText(question, text) => {
+                ask_text(alloc, index, *question, &self.names, text.as_slice())
+            }
+            Command::Place(at, name) => Ok(place(index, *at, *name)),
+            Command::Sight(vis, from) => Ok(sight(index, *vis, *from)),
+            Command::Read(text) => read(alloc, &self.names, text.as_slice()),
+            Command::Left => Ok(Answer::Left(index.left())),
+        }
+    }
+}
