@@ -1,13 +1,13 @@
 -- What the words tell one by one is what they tell together.
 use Rattle.std.proofs.Common.{◌≡◌, ℕ, zero, suc, ◌+◌, ◌<◌, ◌≤◌, List, [], ◌∷◌, ◌++◌, length, take, set, sym, refl, ap, ◌∙◌, arith, length-append, Bool, true, false, cond, ltb, fold, is_none, Some, None, Ok, Err, Option, Result, subst, append-nil, append_assoc, add-zero, inl, inr}
 use lib.Seq.{take-append-le}
-use Rattle.std.proofs.lemmas.List.{take_all, take_more_set, length-take-le, length-take}
+use Rattle.std.proofs.lemmas.List.{take_all, take_more_set, length-take-le}
+use Rattle.std.proofs.lemmas.List.Elements.{filter-append, filter_map-append}
 use Rattle.std.specs.Option.{option_or}
 use Rattle.std.specs.List.{cons_option}
 use Rattle.std.proofs.lemmas.Bool.{cases_Bool, ltb-false}
 use Rattle.hir_def.specs.declared.Name.{Name}
 use Rattle.hir_def.specs.declared.fault.TextFault.{TextFault}
-use Rattle.hir_def.specs.declared.fault.TextFault.TheVariants.{BadText}
 use Rattle.path_text.specs.declared.mod_path.PathKind.{PathKind}
 use Rattle.path_text.specs.declared.read.Gathered.{Gathered}
 use Rattle.path_text.specs.Segments.{Piece, word_of, is_name, segments}
@@ -31,70 +31,55 @@ take-front zero xs r = refl
 take-front (suc n) [] r = refl
 take-front (suc n) (x ∷ xs) r = ap (λ t. x ∷ t) (take-front n xs r)
 
-first-or : {A : Type 0} (o : Option A) (a : A) (r : Option A) → option_or (option_or o (Some a)) r ≡ option_or o (Some a)
-first-or None a r = refl
-first-or (Some b) a r = refl
-
-or-none : {A : Type 0} (o : Option A) → option_or o None ≡ o
-or-none None = refl
-or-none (Some a) = refl
-
 module _ (ls : List (List ℕ)) where
-  after-all : Gathered → List Piece → Gathered
-  after-all g ss = fold (with_segment ls) g ss
+  -- what words tell together
+  record Tells (ss : List Piece) (g : Gathered) : Type 0 where
+    start : g.start ≡ start_in ss
+    level : g.level ≡ level_in ss
+    names : g.names ≡ length (names_in ss)
+    unlisted : g.unlisted ≡ unlisted_in ls (names_in ss)
+    numbers : g.numbers ≡ take 64 (listed_in ls (names_in ss))
 
-  start-told : (ss : List Piece) (g : Gathered) → (after-all g ss).start ≡ option_or g.start (start_in ss)
-  unfolding after-all
-  start-told [] g = sym (or-none g.start)
-  start-told (s ∷ ss) g = start-told ss (with_segment ls g s) ∙ first-or g.start (word_of s.text) (start_in ss)
+  start-push : (ss : List Piece) (s : Piece) → start_in (ss ++ s ∷ []) ≡ option_or (start_in ss) (Some (word_of s.text))
+  start-push [] s = refl
+  start-push (x ∷ ss) s = refl
 
-  level-told : (ss : List Piece) (g : Gathered) → (after-all g ss).level ≡ g.level + level_in ss
-  unfolding after-all
-  level-told [] g = sym (add-zero g.level)
-  level-told (s ∷ ss) g =
-      level-told ss (with_segment ls g s)
-      ∙ elim (cases_Bool (is_super (word_of s.text))) [ inl e ↦ rw e (let z : (g.level + 1) + level_in ss ≡ g.level + suc (level_in ss) = omega arith in z) | inr e ↦ rw e ]
+  unlisted-push : (ss : List Piece) (s : Piece) → unlisted_in ls (ss ++ s ∷ []) ≡ option_or (unlisted_in ls ss) (unlisted_in ls (s ∷ []))
+  unlisted-push [] s = refl
+  unlisted-push (x ∷ ss) s = elim (cases_Bool (is_none (number_of ls x))) [ inl e ↦ rw e | inr e ↦ rw e (unlisted-push ss s) ]
 
-  names-told : (ss : List Piece) (g : Gathered) → (after-all g ss).names ≡ g.names + length (names_in ss)
-  unfolding after-all
-  names-told [] g = sym (add-zero g.names)
-  names-told (s ∷ ss) g =
-      names-told ss (with_segment ls g s)
-      ∙ elim (cases_Bool (is_name (word_of s.text))) [ inl e ↦ rw e (let z : (g.names + 1) + length (names_in ss) ≡ g.names + suc (length (names_in ss)) = omega arith in z) | inr e ↦ rw e ]
+  numbers-push : (xs : List Name) (o : Option Name) → kept (take 64 xs) o ≡ take 64 (xs ++ cons_option o [])
+  numbers-push xs None = ap (take 64) (sym (append-nil xs))
+  numbers-push xs (Some n) = take-front 64 xs (n ∷ [])
 
-  unlisted-told : (ss : List Piece) (g : Gathered) → (after-all g ss).unlisted ≡ option_or g.unlisted (unlisted_in ls (names_in ss))
-  unfolding after-all
-  unlisted-told [] g = sym (or-none g.unlisted)
-  unlisted-told (s ∷ ss) g =
-      unlisted-told ss (with_segment ls g s)
-      ∙ elim (cases_Bool (is_name (word_of s.text))) [
-        | inl e ↦ elim (cases_Bool (is_none (number_of ls s))) [
-          | inl f ↦ rw (e, f) (first-or g.unlisted s.place (unlisted_in ls (names_in ss)))
-          | inr f ↦ rw (e, f) (ap (λ o. option_or o (unlisted_in ls (names_in ss))) (or-none g.unlisted))
-        ]
-        | inr e ↦ rw e
+  -- and with one more word
+  push : (ss : List Piece) (s : Piece) (g : Gathered) → Tells ss g → Tells (ss ++ s ∷ []) (with_segment ls g s)
+  push ss s g t =
+      let start = ap (λ o. option_or o (Some (word_of s.text))) t.start ∙ sym (start-push ss s) in
+      let more : names_in (ss ++ s ∷ []) ≡ names_in ss ++ names_in (s ∷ []) = filter-append (λ s. is_name (word_of s.text)) ss (s ∷ []) in
+      let level : cond (is_super (word_of s.text)) (g.level + 1) g.level ≡ level_in (ss ++ s ∷ [])
+      = rw (filter-append (λ s. is_super (word_of s.text)) ss (s ∷ []), length-append, t.level)
+      (elim (cases_Bool (is_super (word_of s.text))) [ inl e ↦ rw e | inr e ↦ rw e (sym (add-zero (level_in ss))) ]) in
+      elim (cases_Bool (is_name (word_of s.text))) [
+        | inl e ↦
+            let f : names_in (ss ++ s ∷ []) ≡ names_in ss ++ s ∷ [] = more ∙ rw e in
+            record {
+              start = start;
+              level = level;
+              names = rw (e, f, t.names) (sym (length-append (names_in ss) (s ∷ [])));
+              unlisted = rw (e, f, t.unlisted) (sym (unlisted-push (names_in ss) s));
+              numbers = rw (e, f, t.numbers, filter_map-append) (numbers-push (listed_in ls (names_in ss)) (number_of ls s));
+            }
+        | inr e ↦
+            let f : names_in (ss ++ s ∷ []) ≡ names_in ss = more ∙ rw e (append-nil (names_in ss)) in
+            record { start = start; level = level; names = rw (e, f) t.names; unlisted = rw (e, f) t.unlisted; numbers = rw (e, f) t.numbers }
       ]
 
-  more-kept : (ns : List Name) (o : Option Name) (r : List Name) → take 64 (kept ns o ++ r) ≡ take 64 (ns ++ cons_option o r)
-  more-kept ns None r = refl
-  more-kept ns (Some n) r = take-front 64 (ns ++ n ∷ []) r ∙ ap (take 64) (append_assoc ns (n ∷ []) r)
-
-  numbers-told : (ss : List Piece) (g : Gathered) → take 64 (after-all g ss).numbers ≡ take 64 (g.numbers ++ listed_in ls (names_in ss))
-  unfolding after-all
-  numbers-told [] g = ap (take 64) (sym (append-nil g.numbers))
-  numbers-told (s ∷ ss) g =
-      numbers-told ss (with_segment ls g s)
-      ∙ elim (cases_Bool (is_name (word_of s.text))) [ inl e ↦ rw e (more-kept g.numbers (number_of ls s) (listed_in ls (names_in ss))) | inr e ↦ rw e ]
-
-  few-kept : (ss : List Piece) (g : Gathered) → length g.numbers ≤ 64 → length (after-all g ss).numbers ≤ 64
-  unfolding after-all
-  few-kept [] g h = h
-  few-kept (s ∷ ss) g h = few-kept ss (with_segment ls g s) (one (is_name (word_of s.text)) (number_of ls s))
-    where
-      one : (b : Bool) (o : Option Name) → length (cond b (kept g.numbers o) g.numbers) ≤ 64
-      one false o = h
-      one true None = h
-      one true (Some n) = omega (arith, length-take 64 (g.numbers ++ n ∷ []))
+  all : (ss pre : List Piece) (g : Gathered) → Tells pre g → Tells (pre ++ ss) (fold (with_segment ls) g ss)
+  all [] pre g t = subst (λ (ss : List Piece). Tells ss g) (sym (append-nil pre)) t
+  all (s ∷ ss) pre g t =
+      subst (λ (u : List Piece). Tells u (fold (with_segment ls) (with_segment ls g s) ss)) (append_assoc pre (s ∷ []) ss)
+      (all ss (pre ++ s ∷ []) (with_segment ls g s) (push pre s g t))
 
   few-listed : (ss : List Piece) → length (listed_in ls ss) ≤ length ss
   few-listed [] = omega arith
@@ -119,20 +104,14 @@ allowed-same (Ok u) p q h = ap Ok (h u refl)
 allowed-same (Err f) p q h = refl
 
 pub read_words_told : (ls : List (List ℕ)) (ss : List Piece) (g : Gathered) → fold (with_segment ls) nothing ss ≡ g → read_words ls ss ≡ allowed (counts_of g.names g.level g.unlisted) (kind_by g.start g.level, g.numbers)
-unfolding after-all
 read_words_told ls ss g e =
-    let level : g.level ≡ level_in ss = ap (λ (h : Gathered). h.level) (sym e) ∙ level-told ls ss nothing ∙ (let z : 0 + level_in ss ≡ level_in ss = omega arith in z) in
-    let names : g.names ≡ length (names_in ss) = ap (λ (h : Gathered). h.names) (sym e) ∙ names-told ls ss nothing ∙ (let z : 0 + length (names_in ss) ≡ length (names_in ss) = omega arith in z) in
-    let unlisted : g.unlisted ≡ unlisted_in ls (names_in ss) = ap (λ (h : Gathered). h.unlisted) (sym e) ∙ unlisted-told ls ss nothing in
-    let start : g.start ≡ start_in ss = ap (λ (h : Gathered). h.start) (sym e) ∙ start-told ls ss nothing in
-    let kept : take 64 g.numbers ≡ take 64 (listed_in ls (names_in ss)) = ap (λ (h : Gathered). take 64 h.numbers) (sym e) ∙ numbers-told ls ss nothing in
-    let room : length g.numbers ≤ 64 = subst (λ (h : Gathered). length h.numbers ≤ 64) e (few-kept ls ss nothing (omega arith)) in
-    rw (level, names, unlisted, start)
+    let t = subst (Tells ls ss) e (all ls ss [] nothing (record { start = refl; level = refl; names = refl; unlisted = refl; numbers = refl })) in
+    rw (t.level, t.names, t.unlisted, t.start, t.numbers)
     (allowed-same (counts_of (length (names_in ss)) (level_in ss) (unlisted_in ls (names_in ss))) _ _
     (λ u z.
-    let few : length (names_in ss) ≤ 64 = (counts_ok (length (names_in ss)) (level_in ss) (unlisted_in ls (names_in ss)) u z).0 in
-    let h : length (listed_in ls (names_in ss)) ≤ length (names_in ss) = few-listed ls (names_in ss) in
-    ap (λ (ns : List Name). (kind_by (start_in ss) (level_in ss), ns)) (sym (take_all 64 (listed_in ls (names_in ss)) (omega arith)) ∙ sym kept ∙ take_all 64 g.numbers room)))
+    let few = (counts_ok (length (names_in ss)) (level_in ss) (unlisted_in ls (names_in ss)) u z).0 in
+    let h = few-listed ls (names_in ss) in
+    ap (λ (ns : List Name). (kind_by (start_in ss) (level_in ss), ns)) (sym (take_all 64 (listed_in ls (names_in ss)) (omega arith)))))
 
 pub read_told : (ls : List (List ℕ)) (text : List ℕ) (g : Gathered) → gathered_of ls text ≡ Ok g → read_of ls text ≡ allowed (counts_of g.names g.level g.unlisted) (kind_by g.start g.level, g.numbers)
 read_told ls text g e = by-stop (stop_of text) e
@@ -140,10 +119,3 @@ read_told ls text g e = by-stop (stop_of text) e
     by-stop : (o : Option ℕ) → unless_stopped o (Ok (fold (with_segment ls) nothing (segments 0 text))) ≡ Ok g → unless_stopped o (read_words ls (segments 0 text)) ≡ allowed (counts_of g.names g.level g.unlisted) (kind_by g.start g.level, g.numbers)
     by-stop None e = read_words_told ls (segments 0 text) g (let z : fold (with_segment ls) nothing (segments 0 text) ≡ g = cc in z)
     by-stop (Some p) e = absurd (let y : ◌≡◌ {A = ℕ} 0 1 = cc in omega arith)
-
-pub read_stopped : (ls : List (List ℕ)) (text : List ℕ) (f : TextFault) → gathered_of ls text ≡ Err f → read_of ls text ≡ Err f
-read_stopped ls text f e = by-stop (stop_of text) e
-  where
-    by-stop : (o : Option ℕ) → unless_stopped o (Ok (fold (with_segment ls) nothing (segments 0 text))) ≡ Err f → unless_stopped o (read_words ls (segments 0 text)) ≡ Err f
-    by-stop None e = absurd (let y : ◌≡◌ {A = ℕ} 0 1 = cc in omega arith)
-    by-stop (Some p) e = let z : BadText p ≡ f = cc in ap Err z

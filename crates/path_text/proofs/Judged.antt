@@ -99,11 +99,7 @@ module _ (bs : List ℕ) (n : ℕ) where
   pub fits : bad_line bs n ≡ None → Fits bs n
   fits e = fits-of (MatchOption-at_none (Never (AtFault bs n)) (FirstAt (AtFault bs n)) e judged)
 
-  first-bad : (i : ℕ) → bad_line bs n ≡ Some i → FirstAt (AtFault bs n) i
-  first-bad i e = MatchOption-at_some (Never (AtFault bs n)) (FirstAt (AtFault bs n)) i e judged
-
-  unfit : (i : ℕ) → bad_line bs n ≡ Some i → Fits bs n → ⊥
-  unfit i e fit = never-of fit i (first-bad i e).0
-
   pub misfit : (i : ℕ) → bad_line bs n ≡ Some i → Misfit bs n (BadLine i)
-  misfit i e = record { first = (i, refl, first-bad i e); unfit = unfit i e }
+  misfit i e =
+      let f = MatchOption-at_some (Never (AtFault bs n)) (FirstAt (AtFault bs n)) i e judged in
+      record { first = (i, refl, f); unfit = λ fit. never-of fit i f.0 }

@@ -1,10 +1,8 @@
 -- The lines of a text, one after the other.
-use Rattle.std.proofs.Common.{◌≡◌, ℕ, zero, suc, ◌+◌, ◌-◌, ◌<◌, Bool, Decides, not, eqb, ltb, List, [], ◌∷◌, length, get_or, take, drop, sym, refl, ap, ◌∙◌, inl, inr, suc-le-suc, le_of_suc-le-suc, not-suc-le-zero, add-one, arith, rules, length-drop}
+use Rattle.std.proofs.Common.{◌≡◌, ℕ, zero, suc, ◌+◌, ◌-◌, ◌<◌, not, eqb, ltb, List, [], ◌∷◌, length, get_or, take, drop, sym, refl, ap, ◌∙◌, inl, inr, suc-le-suc, le_of_suc-le-suc, not-suc-le-zero, add-one, arith, length-drop}
 use Rattle.std.proofs.lemmas.List.{get_or-drop, get_or_default, drop_all}
-use Rattle.std.proofs.lemmas.Bool.{cases_lt, eq-eqb, ne_eqb, lt-ltb, lt-leb}
-use Rattle.std.proofs.lemmas.Slice.Eq.{bytes_eq-Decides}
-use Rattle.std.specs.Str.{bytes_eq}
-use Rattle.path_text.specs.Lists.{glue, lines_of, unfinished, OneLine, Split, builtin_line, good_line}
+use Rattle.std.proofs.lemmas.Bool.{cases_lt, eq-eqb, ne_eqb, lt-ltb}
+use Rattle.path_text.specs.Lists.{glue, lines_of, unfinished, OneLine, Split}
 
 -- no line feed stands below m
 abbrev pub NoFeed : List ℕ → ℕ → Type 0
@@ -41,9 +39,3 @@ same_end xs m h e =
 
 pub split : (xs : List ℕ) (m : ℕ) → m < length xs → get_or xs m 0 ≡ 10 → NoFeed xs m → Split xs (take m xs) (drop (m + 1) xs)
 split xs m h e no-feed = record { lines = rw (add-one m) (next-line xs m h e no-feed); half = same_end xs m h e; shorter = simp length-drop (omega arith) }
-
--- a line among the first nineteen is compared with the built-in name
-pub good-built-in : (n i : ℕ) (l : List ℕ) → i < n → (t : List ℕ) (r : Bool) → i < 19 → t ≡ builtin_line i → Decides r (l ≡ t) → r ≡ good_line n i l
-good-built-in n i l h t r below e d =
-    let same : r ≡ bytes_eq l t = search (rules, bytes_eq-Decides) in
-    same ∙ rw (lt-ltb i n h, lt-leb 19 i below) (ap (bytes_eq l) e)

@@ -1,15 +1,15 @@
 -- Words that can follow one another are exactly a start and names: so a text stops where it stops being a path, and its segments tell its reading.
-use Rattle.std.proofs.Common.{◌≡◌, ℕ, zero, suc, true, List, [], ◌∷◌, ◌++◌, filter, length, Some, None, codes, Option, sym, refl, ap, ◌∙◌, subst, arith, ◌+◌, MatchOption, Bool, false, map, inl, inr, length-append}
+use Rattle.std.proofs.Common.{◌≡◌, ℕ, zero, suc, true, List, [], ◌∷◌, ◌++◌, filter, length, Some, None, codes, Option, sym, refl, ap, ◌∙◌, subst, arith, ◌+◌, MatchOption, Bool, map, inl, inr}
 use Rattle.path_text.specs.declared.language.Before.{Before}
 use Rattle.path_text.specs.declared.language.Before.TheVariants.{Nothing, Supers, Names}
 use Rattle.path_text.specs.declared.segment.WordKind.{WordKind}
 use Rattle.path_text.specs.declared.mod_path.PathKind.{PathKind}
-use Rattle.path_text.specs.declared.mod_path.PathKind.TheVariants.{Plain, Super, Crate, Abs, DollarCrate}
+use Rattle.path_text.specs.declared.mod_path.PathKind.TheVariants.{Plain, Super, Crate, Abs}
 use Rattle.path_text.specs.Segments.{word_of, is_name, Piece, piece, segments}
 use Rattle.path_text.specs.Language.{is_super, stands, after}
-use Rattle.path_text.specs.Grammar.{Word, IsName, Names as AllNames, supers, Starts, plain, absolute, crate, own, above, joined, lead, Reads, IsPath, Inners}
+use Rattle.path_text.specs.Grammar.{Word, IsName, Names as AllNames, supers, Starts, plain, absolute, crate, own, above, joined, lead, Reads, IsPath}
 use Rattle.path_text.specs.Laws.{level_of}
-use Rattle.path_text.specs.Paths.{kind_by, names_in, level_in, kind_in}
+use Rattle.path_text.specs.Paths.{kind_by, level_in, kind_in}
 use Rattle.path_text.proofs.Follow.{Means, means, no, name-kind, letter-inners, Stood, Follows, Line, filled}
 use Rattle.path_text.specs.Places.{RefusedAt}
 use Rattle.path_text.specs.Texts.{stop_of}
@@ -17,9 +17,9 @@ use Rattle.path_text.proofs.Halting.{shift}
 use Rattle.path_text.proofs.Verdict.{Verdict, verdict}
 use Rattle.std.proofs.lemmas.Bool.{cases_Bool}
 use Rattle.std.proofs.lemmas.List.{length-map}
-use Rattle.path_text.specs.Words.{closed}
 use Rattle.path_text.proofs.Cut.{seg}
 use Rattle.path_text.specs.declared.segment.WordKind.TheVariants as word
+use Rattle.path_text.specs.declared.segment.Next.{Next}
 use Rattle.path_text.specs.declared.segment.Next.TheVariants as next
 
 -- what words tell of a path
@@ -198,30 +198,23 @@ judged bs = judge bs (stop_of bs) (verdict Nothing bs 0)
 abbrev pub texts : List Piece → List (List ℕ)
 texts ss = map (λ (s : Piece). s.text) ss
 
-pub texts-joined : (l : List (List ℕ)) (c : Before) (n : ℕ) → (l ≡ [] → ⊥) → Follows c l → texts (segments n (joined l)) ≡ l
-texts-joined [] c n e f = absurd (e refl)
-texts-joined (w ∷ []) c n e f = ap texts (seg w [] n f.0.word tt)
-texts-joined (w ∷ v ∷ l) c n e f = ap texts (seg w (58 ∷ 58 ∷ joined (v ∷ l)) n f.0.word refl) ∙ ap (λ (t : List (List ℕ)). w ∷ t) (texts-joined (v ∷ l) (after (word_of w)) (n + length w + 2) filled f.2)
+abbrev next_of : List (List ℕ) → Next
+next_of [] = next.End
+next_of (w ∷ l) = next.Word
 
--- the segment s after those before it
-pub place-of : (l : List (List ℕ)) (c : Before) (n : ℕ) (before : List Piece) (s : Piece) (post : List Piece) → (l ≡ [] → ⊥) → Follows c l → segments n (joined l) ≡ before ++ s ∷ post → s.place ≡ n + length (closed (texts before))
-place-of [] c n before s post h f e = absurd (h refl)
-place-of (w ∷ []) c n before s post h f e = alone before (sym (seg w [] n f.0.word tt) ∙ e)
-  where
-    alone : (before : List Piece) → piece w n next.End ∷ [] ≡ before ++ s ∷ post → s.place ≡ n + length (closed (texts before))
-    alone [] e = let z : piece w n next.End ≡ s = cc in let y : s.place ≡ n = ap (λ (x : Piece). x.place) (sym z) in omega arith
-    alone (x ∷ b) e = let k = ap length e in absurd (omega (arith, length-append b (s ∷ post)))
-place-of (w ∷ v ∷ l) c n before s post h f e = more before (sym (seg w (58 ∷ 58 ∷ joined (v ∷ l)) n f.0.word refl) ∙ e) (λ b g. place-of (v ∷ l) (after (word_of w)) (n + length w + 2) b s post filled f.2 g)
-  where
-    more : (before : List Piece) → piece w n next.Word ∷ segments (n + length w + 2) (joined (v ∷ l)) ≡ before ++ s ∷ post → ((b : List Piece) → segments (n + length w + 2) (joined (v ∷ l)) ≡ b ++ s ∷ post → s.place ≡ n + length w + 2 + length (closed (texts b))) → s.place ≡ n + length (closed (texts before))
-    more [] e ih = let z : piece w n next.Word ≡ s = cc in let y : s.place ≡ n = ap (λ (x : Piece). x.place) (sym z) in omega arith
-    more (x ∷ b) e ih =
-        let z : piece w n next.Word ≡ x = cc in
-        let t : segments (n + length w + 2) (joined (v ∷ l)) ≡ b ++ s ∷ post = cc in
-        let y : x.text ≡ w = ap (λ (x : Piece). x.text) (sym z) in
-        let p = ih b t in
-        let k : length (closed (texts (x ∷ b))) ≡ length w + suc (suc (length (closed (texts b)))) = ap (λ (u : List ℕ). length (u ++ 58 ∷ 58 ∷ closed (texts b))) y ∙ length-append w (58 ∷ 58 ∷ closed (texts b)) in
-        omega arith
+-- the segments of the text that joins words, from n on
+abbrev pub pieces : ℕ → List (List ℕ) → List Piece
+pieces n [] = []
+pieces n (w ∷ l) = piece w n (next_of l) ∷ pieces (n + length w + 2) l
+
+pub in-pieces : (l : List (List ℕ)) (c : Before) (n : ℕ) → (l ≡ [] → ⊥) → Follows c l → segments n (joined l) ≡ pieces n l
+in-pieces [] c n e f = absurd (e refl)
+in-pieces (w ∷ []) c n e f = seg w [] n f.0.word tt
+in-pieces (w ∷ v ∷ l) c n e f = seg w (58 ∷ 58 ∷ joined (v ∷ l)) n f.0.word refl ∙ ap (λ (t : List Piece). piece w n next.Word ∷ t) (in-pieces (v ∷ l) (after (word_of w)) (n + length w + 2) filled f.2)
+
+pub texts-of : (l : List (List ℕ)) (n : ℕ) → texts (pieces n l) ≡ l
+texts-of [] n = refl
+texts-of (w ∷ l) n = ap (λ (t : List (List ℕ)). w ∷ t) (texts-of l (n + length w + 2))
 
 -- what is told of segments is told of their texts
 pub filter-texts : (p : List ℕ → Bool) (ss : List Piece) → texts (filter (λ s. p s.text) ss) ≡ filter p (texts ss)
@@ -238,31 +231,3 @@ level-texts ss = sym (length-map (filter (λ (s : Piece). is_super (word_of s.te
 pub kind-texts : (ss : List Piece) → kind_in ss ≡ kind (texts ss)
 kind-texts [] = refl
 kind-texts (s ∷ ss) = ap (λ n. kind_by (start (texts (s ∷ ss))) n) (level-texts (s ∷ ss))
-
--- where names come last
-pub record Parts (a : List (List ℕ)) (ss : List Piece) : Type 0 where
-  pub before : List Piece
-  pub whole : ss ≡ before ++ names_in ss
-  pub told : texts before ≡ a
-
-all-in : (ss : List Piece) → AllNames (texts ss) → names_in ss ≡ ss
-all-in [] h = refl
-all-in (s ∷ ss) h = rw (name-kind s.text h.0) (ap (λ (t : List Piece). s ∷ t) (all-in ss h.1))
-
-pub parts : (a ns : List (List ℕ)) (ss : List Piece) → texts ss ≡ a ++ ns → names a ≡ [] → AllNames ns → Parts a ss
-parts [] ns ss e none h = record { before = []; whole = sym (all-in ss (subst AllNames (sym e) h)); told = refl }
-parts (w ∷ a) ns [] e none h = absurd (let z : ◌≡◌ {A = ℕ} 0 1 = cc in omega arith)
-parts (w ∷ a) ns (s ∷ ss) e none h =
-    let same : s.text ≡ w = cc in
-    let t : texts ss ≡ a ++ ns = cc in
-    let no = first-none w a none in
-    let r = parts a ns ss t no.1 h in
-    let k : is_name (word_of s.text) ≡ false = ap (λ (u : List ℕ). is_name (word_of u)) same ∙ no.0 in
-    record { before = s ∷ r.before; whole = rw k (ap (λ (u : List Piece). s ∷ u) r.whole); told = ap (λ (u : List ℕ). u ∷ texts r.before) same ∙ ap (λ (u : List (List ℕ)). w ∷ u) r.told }
-  where
-    first-none : (w : List ℕ) (a : List (List ℕ)) → names (w ∷ a) ≡ [] → (is_name (word_of w) ≡ false) × (names a ≡ [])
-    first-none w a e =
-        elim (cases_Bool (is_name (word_of w))) [
-          | inl z ↦ let f = rw z at e in absurd (let y : ◌≡◌ {A = ℕ} 0 1 = cc in omega arith)
-          | inr z ↦ (z, rw z at e)
-        ]

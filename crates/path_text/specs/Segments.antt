@@ -53,7 +53,3 @@ word_of (b ∷ w) =
 abbrev pub is_name : WordKind → Bool
 is_name Name = true
 is_name _ = false
-
-abbrev pub is_end : Next → Bool
-is_end End = true
-is_end _ = false

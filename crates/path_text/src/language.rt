@@ -3,10 +3,10 @@ ghost use Rattle.std.specs.Prelude.{◌≡◌, ◌+◌, ◌^◌, ◌<◌};
 ghost use Rattle.path_text.specs.Language.{stands, after, barred, halt};
 ghost use Rattle.path_text.specs.Left.{piece_of};
 
-use crate::segment::{Next, Segment, WordKind};
+use crate::segment::{Next, Segment, WordKind, word_kind};
 
 /// What stands before a word: nothing, `self` and `super` alone, or what only names can follow.
-#[derive(Clone, Copy, PartialEq, Eq, Debug)]
+#[derive(Clone, Copy)]
 pub(crate) enum Before {
     Nothing,
     Supers,
@@ -51,7 +51,7 @@ impl Before {
     pub(crate) fn halt(self, segment: &Segment) -> Option<usize>
         ensures { result ≡ halt self (piece_of segment.now) }
     {
-        let word = segment.kind();
+        let word = word_kind(segment.text);
         if !can_stand(self, word) {
             return Some(barred_at(word, segment.place));
         }

@@ -1,8 +1,9 @@
 // Name lists: a name's number is its first line, counted from 0.
-ghost use Rattle.std.specs.Prelude.{◌≡◌, ◌++◌, ◌∷◌, [], IfOk, IfErr, OnOk, OnErr, MatchOption, option_map};
+ghost use Rattle.std.specs.Prelude.{◌≡◌, ◌<◌, ◌++◌, ◌∷◌, [], IfOk, IfErr, OnOk, OnErr, MatchOption, option_map};
 ghost use Rattle.std.specs.List.{slice_get};
 ghost use Rattle.hir_def.specs.Faults.{Answers, IfRefused, OnMemory};
-ghost use Rattle.path_text.specs.Lists.{lines_of, OneLine, Split, good_line, bad_line, made_of, Fits, Misfit, Never, FirstAt, first, as_name, IsLineAt, Grows, builtin_lines};
+ghost use Rattle.path_text.specs.Lists.{lines_of, OneLine, Split, good_line, bad_line, made_of, Fits, Misfit, Never, FirstAt, first, as_name, IsLineAt, Grows, builtin_line, builtin_lines};
+ghost use Rattle.path_text.specs.Numbers.{Numbers};
 
 use hir_def::Name;
 use hir_def::builtin_type::BuiltinType;
@@ -44,17 +45,21 @@ fn split_line(text: &[u8]) -> Option<(&[u8], &[u8])>
     None
 }
 
+fn built_in_line(number: usize) -> &'static [u8]
+    requires { number < 19 }
+    ensures { result.now ≡ builtin_line number }
+{
+    match BuiltinType::text(Name(number as u32)) {
+        Some(name) => name.as_bytes(),
+        None => b"",
+    }
+}
+
 // A finished line is good unless it is one too many, or stands for a built-in name and is not that name.
 fn is_good_line(line: &[u8], number: usize, names: u32) -> bool
     ensures { result ≡ good_line names number line.now }
 {
-    if names as usize <= number {
-        return false;
-    }
-    match BuiltinType::text(Name(number as u32)) {
-        Some(name) => line == name.as_bytes(),
-        None => true,
-    }
+    number < names as usize && (number >= BUILTIN_NAMES || line == built_in_line(number))
 }
 
 // The first line at fault; a line that is unfinished or missing is the one after the last finished line.
@@ -75,6 +80,21 @@ fn first_bad_line(bytes: &[u8], names: u32) -> Option<usize>
     } else {
         None
     }
+}
+
+// Gives a line its number, unless an equal line has one.
+fn number_line<'a>(
+    numbers: &mut HashMap<&'a [u8], Name>,
+    line: &'a [u8],
+    number: Name,
+) -> Result<(), AllocError>
+    ensures ok { OnOk result (Numbers numbers.old line.now number numbers.new) }
+    ensures err { OnErr result (numbers.new.entries ≡ numbers.old.entries) }
+{
+    if !numbers.contains_key(line) {
+        numbers.insert(line, number)?;
+    }
+    Ok(())
 }
 
 impl<'a> NameList<'a> {
@@ -128,9 +148,7 @@ impl<'a> NameList<'a> {
             return Err(AllocError);
         };
         self.lines.reserve(1)?;
-        if !self.numbers.contains_key(line) {
-            self.numbers.insert(line, Name(number))?;
-        }
+        number_line(&mut self.numbers, line, Name(number))?;
         self.lines.push(line)?;
         Ok(())
     }
@@ -140,10 +158,8 @@ impl<'a> NameList<'a> {
         ensures { IfOk result (λ l. l ≡ builtin_lines 19) }
     {
         let mut list = NameList::empty(alloc);
-        for number in 0..BUILTIN_NAMES as u32 {
-            if let Some(name) = BuiltinType::text(Name(number)) {
-                list.push(name.as_bytes())?;
-            }
+        for number in 0..BUILTIN_NAMES {
+            list.push(built_in_line(number))?;
         }
         Ok(list)
     }

@@ -6,7 +6,7 @@ ghost use Rattle.path_text.specs.Places.{RefusedAt};
 ghost use Rattle.path_text.specs.Texts.{stop_of, unless_stopped};
 
 use crate::language::Before;
-use crate::segment::Segments;
+use crate::segment::{Segments, WordKind, word_kind, word_len};
 use hir_def::fault::TextFault;
 
 /// Whether the text is a path; if not, it is refused at the first byte that cannot go on.
@@ -19,7 +19,7 @@ pub fn check_path_text(text: &[u8]) -> Result<(), TextFault>
         if let Some(place) = before.halt(&segment) {
             return Err(TextFault::BadText(place));
         }
-        before = Before::after(segment.kind());
+        before = Before::after(word_kind(segment.text));
     }
     Ok(())
 }
@@ -28,8 +28,5 @@ pub fn check_path_text(text: &[u8]) -> Result<(), TextFault>
 pub fn is_name(text: &[u8]) -> bool
     ensures { Decides result (IsName text.now) }
 {
-    match Segments::new(text).next() {
-        Some(word) => word.is_whole_name(),
-        None => false,
-    }
+    word_len(text) == text.len() && matches!(word_kind(text), WordKind::Name)
 }

@@ -4,13 +4,13 @@ ghost use Rattle.hir_def.specs.Faults.{Answers, IfRefused, OnMemory};
 ghost use Rattle.path_text.specs.Gathered.{nothing, with_name, with_segment, gathered_of};
 ghost use Rattle.path_text.specs.Laws.{IsRead, Denies, IsReadable};
 ghost use Rattle.path_text.specs.Left.{piece_of};
-ghost use Rattle.path_text.specs.Paths.{counts_of, kind_by, read_of};
+ghost use Rattle.path_text.specs.Paths.{allowed, counts_of, kind_by, read_of};
 
 use crate::first_numbers::{FirstNumbers, MOST_NAMES};
 use crate::language::Before;
 use crate::mod_path::{ModPath, PathKind};
 use crate::name_list::NameList;
-use crate::segment::{Segment, Segments, WordKind};
+use crate::segment::{Segment, Segments, WordKind, word_kind};
 use hir_def::fault::{Failure, TextFault};
 use std::alloc::Global;
 
@@ -49,7 +49,7 @@ impl Gathered {
         requires level { self.old.level + 1 < 2 ^ 64 }
         ensures { self.new ≡ with_segment list.now self.old (piece_of segment.now) }
     {
-        let word = segment.kind();
+        let word = word_kind(segment.text);
         self.start = self.start.or(Some(word));
         match word {
             WordKind::Super => self.level += 1,
@@ -69,22 +69,6 @@ impl Gathered {
         }
     }
 
-    // The counts come first, and then the names.
-    fn check(&self) -> Result<(), TextFault>
-        ensures { result ≡ counts_of self.now.names self.now.level self.now.unlisted }
-    {
-        if self.names > MOST_NAMES {
-            return Err(TextFault::TooManyNames);
-        }
-        if self.level > MOST_SUPERS {
-            return Err(TextFault::TooManySupers);
-        }
-        match self.unlisted {
-            Some(place) => Err(TextFault::UnknownName(place)),
-            None => Ok(()),
-        }
-    }
-
     fn kind(&self) -> PathKind
         requires { self.now.level < 2 ^ 32 }
         ensures { result ≡ kind_by self.now.start self.now.level }
@@ -94,6 +78,22 @@ impl Gathered {
             Some(WordKind::Crate) => PathKind::Crate,
             Some(WordKind::Own | WordKind::Super) => PathKind::Super(self.level as u32),
             _ => PathKind::Plain,
+        }
+    }
+
+    // The path's kind and the numbers of its names. The counts come first, and then the names.
+    fn read(self) -> Result<(PathKind, FirstNumbers), TextFault>
+        ensures { result ≡ allowed (counts_of self.names self.level self.unlisted) (kind_by self.start self.level, self.numbers) }
+    {
+        if self.names > MOST_NAMES {
+            return Err(TextFault::TooManyNames);
+        }
+        if self.level > MOST_SUPERS {
+            return Err(TextFault::TooManySupers);
+        }
+        match self.unlisted {
+            Some(place) => Err(TextFault::UnknownName(place)),
+            None => Ok((self.kind(), self.numbers)),
         }
     }
 }
@@ -108,25 +108,20 @@ fn gather(list: &NameList, text: &[u8]) -> Result<Gathered, TextFault>
         if let Some(place) = before.halt(&segment) {
             return Err(TextFault::BadText(place));
         }
-        before = Before::after(segment.kind());
+        before = Before::after(word_kind(segment.text));
         gathered.add(list, &segment);
     }
     Ok(gathered)
 }
 
-// The path's kind and the numbers of its names.
-
 fn read(list: &NameList, text: &[u8]) -> Result<(PathKind, FirstNumbers), TextFault>
     ensures { result ≡ read_of list.now text.now }
 {
-    let gathered = gather(list, text)?;
-    gathered.check()?;
-    Ok((gathered.kind(), gathered.numbers))
+    gather(list, text)?.read()
 }
 
 /// The path that a text stands for, its names by their numbers in the list. Memory can be wanting only for the text of
 /// such a path.
-
 pub fn read_path(alloc: Global, list: &NameList, text: &[u8]) -> Result<ModPath, Failure<TextFault>>
     ensures value { Answers (λ p. (p.kind, p.names.items)) (read_of list.now text.now) result }
     ensures exact { MatchResult result

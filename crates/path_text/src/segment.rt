@@ -1,10 +1,10 @@
 // The words of a text one after the other, each with its place and with what follows it.
-ghost use Rattle.std.specs.Prelude.{◌≡◌, ℕ, ◌<◌, ◌≤◌, ◌^◌, ◌+◌, ◌&&◌, true, false, length, slice_index};
+ghost use Rattle.std.specs.Prelude.{◌≡◌, ℕ, ◌<◌, ◌≤◌, ◌^◌, ◌+◌, true, false, length, slice_index};
 ghost use Rattle.path_text.specs.Bytes.{letter, inner};
-ghost use Rattle.path_text.specs.Segments.{left_len, is_end, is_name, word_of, next_at, segments, segments_from};
+ghost use Rattle.path_text.specs.Segments.{left_len, word_of, next_at, segments, segments_from};
 
 /// What follows a word.
-#[derive(Clone, Copy, PartialEq, Eq, Debug)]
+#[derive(Clone, Copy)]
 pub(crate) enum Next {
     /// `::`, and one more word.
     Word,
@@ -25,7 +25,7 @@ pub(crate) struct Segment<'a> {
 }
 
 /// What a word is to a path.
-#[derive(Clone, Copy, PartialEq, Eq, Debug)]
+#[derive(Clone, Copy)]
 pub(crate) enum WordKind {
     /// No byte, as before a leading `::`.
     Empty,
@@ -48,29 +48,20 @@ fn is_letter(b: u8) -> bool
 fn is_inner(b: u8) -> bool
     ensures { result ≡ inner b }
 {
-    matches!(b as char, 'a'..='z' | 'A'..='Z' | '_' | '0'..='9')
+    is_letter(b) || matches!(b as char, '0'..='9')
 }
 
-impl<'a> Segment<'a> {
-    pub(crate) fn kind(&self) -> WordKind
-        ensures { result ≡ word_of self.now.text.now }
-    {
-        match self.text {
-            b"" => WordKind::Empty,
-            b"crate" => WordKind::Crate,
-            b"self" => WordKind::Own,
-            b"super" => WordKind::Super,
-            b"_" => WordKind::Bare,
-            [first, ..] if is_letter(*first) => WordKind::Name,
-            _ => WordKind::Digits,
-        }
-    }
-
-    /// Whether the segment is a name that ends the text.
-    pub(crate) fn is_whole_name(&self) -> bool
-        ensures { result ≡ (is_end self.now.next && is_name (word_of self.now.text.now)) }
-    {
-        matches!((self.next, self.kind()), (Next::End, WordKind::Name))
+pub(crate) fn word_kind(word: &[u8]) -> WordKind
+    ensures { result ≡ word_of word.now }
+{
+    match word {
+        b"" => WordKind::Empty,
+        b"crate" => WordKind::Crate,
+        b"self" => WordKind::Own,
+        b"super" => WordKind::Super,
+        b"_" => WordKind::Bare,
+        [first, ..] if is_letter(*first) => WordKind::Name,
+        _ => WordKind::Digits,
     }
 }
 
@@ -84,8 +75,8 @@ pub(crate) struct Segments<'a> {
     ghost fits: { place + left_len rest < 2 ^ 63 },
 }
 
-// The length of the word at the front.
-fn word_len(text: &[u8]) -> usize
+/// The length of the word at the front.
+pub(crate) fn word_len(text: &[u8]) -> usize
     ensures within { result ≤ length text.now }
     ensures word { (k : ℕ) → k < result → inner (slice_index text.now k) ≡ true }
     ensures ended { result < length text.now → inner (slice_index text.now result) ≡ false }
