@@ -1,6 +1,7 @@
 // A path by its kind and its numbers, as text: in one line for programs, and with the names for people.
 ghost use Rattle.std.specs.Prelude.{◌≡◌, ◌++◌, Some, vec_items};
 ghost use Rattle.path_text.specs.Laws.{level_of};
+ghost use Rattle.paths.specs.Apart.{WordsApart, LinesApart};
 ghost use Rattle.paths.specs.Shown.{kind_word, kind_text, each_after, dotted, path_words, path_line};
 
 use hir_def::Name;
@@ -30,6 +31,28 @@ pub struct PathWords<'a>(pub &'a ModPath);
 /// A path as a line of words: `path`, its kind, its level and each of its numbers.
 #[derive(Clone, Copy, Debug)]
 pub struct PathLine<'a>(pub &'a ModPath);
+
+impl<'a> PathWords<'a> {
+    /// A path as its words, which no other path has.
+    #[tactic(auto, using(crate::proofs::Apart::words_apart))]
+    pub fn of(path: &'a ModPath) -> PathWords<'a>
+        ensures path { result.0.now ≡ path.entry.now }
+        ensures alone { WordsApart path.entry.now.kind path.entry.now.names.items }
+    {
+        PathWords(path)
+    }
+}
+
+impl<'a> PathLine<'a> {
+    /// A path as its line, which no other path has, unless one of them begins with `$crate`.
+    #[tactic(auto, using(crate::proofs::Apart::lines_apart))]
+    pub fn of(path: &'a ModPath) -> PathLine<'a>
+        ensures path { result.0.now ≡ path.entry.now }
+        ensures alone { LinesApart path.entry.now.kind path.entry.now.names.items }
+    {
+        PathLine(path)
+    }
+}
 
 /// How a path begins, in one word.
 pub fn kind_word(kind: PathKind) -> &'static str

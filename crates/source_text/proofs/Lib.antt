@@ -1,3 +1,5 @@
+pub mod Cells
+pub mod Cuts
+pub mod Decimals
 pub mod Numbers
 pub mod Places
-pub mod Cells

@@ -1,6 +1,6 @@
 -- The words of a line: runs of bytes without blanks.
 use Rattle.std.specs.Prelude.{◌≡◌, ℕ, ◌+◌, Bool, not, ◌||◌, ◌==◌, List, [], drop, Option, MatchOption}
-use Rattle.std.specs.List.{position_or_len, before_first}
+use Rattle.std.specs.List.{position_or_len, before_first, list_all}
 use Rattle.source_text.specs.declared.words.Word.{Word}
 
 abbrev pub is_blank : ℕ → Bool
@@ -22,3 +22,7 @@ after_word text = let from = drop (blanks text) text in drop (position_or_len is
 abbrev pub NextWord : List ℕ → ℕ → ℕ → Option Word → Type 0
 NextWord text line column o =
     MatchOption o (first_word text ≡ []) (λ w. (w.text.now ≡ first_word text) × (w.line ≡ line) × (w.column ≡ column + blanks text))
+
+-- whether a text has no such byte
+abbrev pub lacks : ℕ → List ℕ → Bool
+lacks c text = list_all (λ b. not (b == c)) text

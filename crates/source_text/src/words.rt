@@ -86,9 +86,12 @@ impl<'a> Words<'a> {
         (self.line, self.column + self.rest.len())
     }
 
+    /// The next word, if there is one, and what is left is what follows it, up to the same end.
     pub fn next_word(&mut self) -> Option<Word<'a>>
         ensures word { NextWord self.old.rest.now self.old.line self.old.column result }
         ensures rest { self.new.rest.now ≡ after_word self.old.rest.now }
+        ensures line { self.new.line ≡ self.old.line }
+        ensures end { self.new.column + length self.new.rest.now ≡ self.old.column + length self.old.rest.now }
     {
         let blanks = count_blanks(self.rest);
         let (_, from) = self.rest.split_at(blanks);

@@ -1,1 +1,9 @@
+pub mod Commands
+pub mod Cuts
+pub mod Defs
+pub mod Deliveries
+pub mod EntryWords
 pub mod Fixed
+pub mod Names
+pub mod Styles
+pub mod Texts

@@ -14,6 +14,7 @@ use Rattle.entries.specs.Visibilities.{asked}
 use Rattle.item_scope.specs.declared.delivery.Delivery.{Delivery}
 use Rattle.item_scope.specs.Views.{View, entries_at}
 use Rattle.item_scope.specs.Deliveries.{refused, any_changed, answer_of, Takes}
+use Rattle.path_text.specs.declared.mod_path.ModPath.{ModPath}
 use Rattle.path_text.specs.declared.mod_path.PathKind.{PathKind}
 use Rattle.path_text.specs.Laws.{IsRead, Denies, IsReadable}
 use Rattle.path_text.specs.Lists.{made_of}
@@ -66,14 +67,24 @@ IsReadAs ls text (Read p) = IsRead ls text p.kind (vec_items p.names)
 IsReadAs ls text (Refused (Text f)) = Denies ls text f
 IsReadAs ls text _ = ⊥
 
--- where there is no list, why; only the reading of a path that it names may want memory
-abbrev pub ReadAnswer : Result (List (List ℕ)) TextFault → List ℕ → Result Answer AllocError → Type 0
-ReadAnswer (Err f) text r = r ≡ Ok (Refused (Text f))
-ReadAnswer (Ok l) text r = MatchResult r (IsReadAs l text) (λ e. IsReadable l text)
+-- what an index that tells v answers to the path that the list reads the text as, or why it reads none
+abbrev pub IsAskedAs : View → Question → List (List ℕ) → List ℕ → Answer → Type 0
+IsAskedAs v q l text a = a ≡ read_asked v q (read_of l text)
 
-abbrev pub AskTextAnswer : View → Question → Result (List (List ℕ)) TextFault → List ℕ → Result Answer AllocError → Type 0
-AskTextAnswer v q (Err f) text r = r ≡ Ok (Refused (Text f))
-AskTextAnswer v q (Ok l) text r = MatchResult r (λ a. a ≡ read_asked v q (read_of l text)) (λ e. IsReadable l text)
+-- where there is no list, why; only the reading of a path that it names may want memory
+abbrev pub TextAnswer : (List (List ℕ) → List ℕ → Answer → Type 0) → Result (List (List ℕ)) TextFault → List ℕ → Result Answer AllocError → Type 0
+TextAnswer Means (Err f) text r = r ≡ Ok (Refused (Text f))
+TextAnswer Means (Ok l) text r = MatchResult r (Means l text) (λ e. IsReadable l text)
+
+-- the path that the list reads the text as, or why it reads none
+abbrev pub PathOrFault : List (List ℕ) → List ℕ → Result ModPath TextFault → Type 0
+PathOrFault l text (Ok p) = (read_of l text ≡ Ok (p.kind, vec_items p.names)) × IsRead l text p.kind (vec_items p.names)
+PathOrFault l text (Err f) = (read_of l text ≡ Err f) × Denies l text f
+
+-- the same, or why there is no list
+abbrev pub PathRead : Result (List (List ℕ)) TextFault → List ℕ → Result (Result ModPath TextFault) AllocError → Type 0
+PathRead (Err f) text r = r ≡ Ok (Err f)
+PathRead (Ok l) text r = MatchResult r (PathOrFault l text) (λ e. IsReadable l text)
 
 -- the list of an index that tells v, or its first line at fault
 abbrev pub names_for : View → List ℕ → Result (List (List ℕ)) TextFault
@@ -83,10 +94,10 @@ names_for v list = made_of list v.fixed.names
 abbrev pub AnswerTo : View → ℕ → List ℕ → Command → Result Answer AllocError → Type 0
 AnswerTo v left list (command.Deliver d) r = r ≡ Ok (delivery_answer (taken_of v left d))
 AnswerTo v left list (command.Ask q p) r = r ≡ Ok (ask_answer (answered v q p.kind (vec_items p.names)))
-AnswerTo v left list (command.AskText q text) r = AskTextAnswer v q (names_for v list) (vec_items text) r
+AnswerTo v left list (command.AskText q text) r = TextAnswer (IsAskedAs v q) (names_for v list) (vec_items text) r
 AnswerTo v left list (command.Place m n) r = r ≡ Ok (place_answer (place_asked v m n))
 AnswerTo v left list (command.Sight vis from) r = r ≡ Ok (sight_answer (asked v.fixed.tree from vis))
-AnswerTo v left list (command.Read text) r = ReadAnswer (names_for v list) (vec_items text) r
+AnswerTo v left list (command.Read text) r = TextAnswer IsReadAs (names_for v list) (vec_items text) r
 AnswerTo v left list command.Left r = r ≡ Ok (Left left)
 
 -- what the index tells then, and how many rows it has left

@@ -78,7 +78,7 @@ impl fmt::Display for Answer {
             Answer::Sight(true) => f.write_str("sight 1 1"),
             Answer::Sight(false) => f.write_str("sight 0 0"),
             Answer::Read(path) => {
-                let words = PathWords(path);
+                let words = PathWords::of(path);
                 write!(f, "read {words}")
             }
             Answer::Left(rows) => write!(f, "left {rows}"),

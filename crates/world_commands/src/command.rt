@@ -1,7 +1,11 @@
 // The commands of a world, as a line says them.
-use crate::entry_words::delivery;
-use crate::fields::{bytes, visibility};
-use crate::question_words::{question, text_question};
+ghost use Rattle.std.specs.Prelude.{◌≡◌, ◌∷◌, IfOk, codes, map};
+ghost use Rattle.world_commands.specs.Words.{ReadAs, parts_of};
+ghost use Rattle.world_commands.specs.Commands.{IsCommand};
+
+use crate::entry_words::{delivery, place};
+use crate::fields::{bytes, parts, visibility};
+use crate::question_words::{path, question};
 use entries::visibility::Visibility;
 use hir_def::{ModuleId, Name};
 use item_scope::delivery::Delivery;
@@ -29,52 +33,94 @@ pub enum Command {
     Left,
 }
 
-fn ask(alloc: Global, rest: &str) -> Result<Option<Command>, AllocError> {
-    match question(alloc, rest)? {
-        Some((question, path)) => Ok(Some(Command::Ask(question, path))),
-        None => Ok(None),
-    }
+fn deliver(fields: &[&str]) -> Option<Command>
+    ensures { ReadAs IsCommand (codes "deliver" ∷ map (λ f. f.now) fields.now) result }
+{
+    delivery(fields).map(Command::Deliver)
 }
 
-fn ask_text(alloc: Global, rest: &str) -> Result<Option<Command>, AllocError> {
-    let Some((question, word)) = text_question(rest) else {
+fn ask(alloc: Global, fields: &[&str]) -> Result<Option<Command>, AllocError>
+    ensures { IfOk result (ReadAs IsCommand (codes "ask" ∷ map (λ f. f.now) fields.now)) }
+{
+    let [asks, at, begins, dotted, shadows, expects] = fields else {
         return Ok(None);
     };
-    match bytes(alloc, word)? {
-        Some(text) => Ok(Some(Command::AskText(question, text))),
+    let Some(question) = question(asks, at, shadows, expects) else {
+        return Ok(None);
+    };
+    match path(alloc, begins, dotted)? {
+        Some(path) => Ok(Some(Command::Ask(question, path))),
         None => Ok(None),
     }
 }
 
-fn place(rest: &str) -> Option<Command> {
-    let (module, name) = rest.split_once(' ')?;
-    Some(Command::Place(ModuleId(number(module)?), Name(number(name)?)))
+fn ask_text(alloc: Global, fields: &[&str]) -> Result<Option<Command>, AllocError>
+    ensures { IfOk result (ReadAs IsCommand (codes "asktext" ∷ map (λ f. f.now) fields.now)) }
+{
+    let [asks, at, text, shadows, expects] = fields else {
+        return Ok(None);
+    };
+    let Some(question) = question(asks, at, shadows, expects) else {
+        return Ok(None);
+    };
+    Ok(bytes(alloc, text)?.map(|text| Command::AskText(question, text)))
 }
 
-fn sight(rest: &str) -> Option<Command> {
-    let (vis, module) = rest.split_once(' ')?;
+fn at_place(fields: &[&str]) -> Option<Command>
+    ensures { ReadAs IsCommand (codes "place" ∷ map (λ f. f.now) fields.now) result }
+{
+    let [module, name] = fields else {
+        return None;
+    };
+    let (module, name) = place(module, name)?;
+    Some(Command::Place(module, name))
+}
+
+fn sight(fields: &[&str]) -> Option<Command>
+    ensures { ReadAs IsCommand (codes "sight" ∷ map (λ f. f.now) fields.now) result }
+{
+    let [vis, module] = fields else {
+        return None;
+    };
     Some(Command::Sight(visibility(vis)?, ModuleId(number(module)?)))
 }
 
-fn left(rest: &str) -> Option<Command> {
-    if rest.is_empty() {
-        Some(Command::Left)
-    } else {
-        None
+fn read(alloc: Global, fields: &[&str]) -> Result<Option<Command>, AllocError>
+    ensures { IfOk result (ReadAs IsCommand (codes "read" ∷ map (λ f. f.now) fields.now)) }
+{
+    let [text] = fields else {
+        return Ok(None);
+    };
+    Ok(bytes(alloc, text)?.map(Command::Read))
+}
+
+fn left(fields: &[&str]) -> Option<Command>
+    ensures { ReadAs IsCommand (codes "left" ∷ map (λ f. f.now) fields.now) result }
+{
+    match fields {
+        [] => Some(Command::Left),
+        _ => None,
     }
 }
 
+#[tactic(auto, using(crate::proofs::Commands::no_verb))]
 impl Command {
-    /// The command of a line, by its first word and what follows the blank after that, if it is one.
-    pub fn parse(alloc: Global, verb: &str, rest: &str) -> Result<Option<Command>, AllocError> {
-        match verb {
-            "deliver" => Ok(delivery(rest).map(Command::Deliver)),
-            "ask" => ask(alloc, rest),
-            "asktext" => ask_text(alloc, rest),
-            "place" => Ok(place(rest)),
-            "sight" => Ok(sight(rest)),
-            "read" => Ok(bytes(alloc, rest)?.map(Command::Read)),
-            "left" => Ok(left(rest)),
+    /// The command that a line says, if it says one: a verb and its words, with one blank between them. Fails where memory is wanting.
+    pub fn parse(alloc: Global, line: &str) -> Result<Option<Command>, AllocError>
+        ensures { IfOk result (ReadAs IsCommand (parts_of 32 line.now)) }
+    {
+        let words = parts(alloc, line, ' ')?;
+        let [verb, fields @ ..] = words.as_slice() else {
+            return Ok(None);
+        };
+        match *verb {
+            "deliver" => Ok(deliver(fields)),
+            "ask" => ask(alloc, fields),
+            "asktext" => ask_text(alloc, fields),
+            "place" => Ok(at_place(fields)),
+            "sight" => Ok(sight(fields)),
+            "read" => read(alloc, fields),
+            "left" => Ok(left(fields)),
             _ => Ok(None),
         }
     }

@@ -4,7 +4,7 @@ ghost use Rattle.path_text.specs.Lists.{made_of};
 ghost use Rattle.path_resolution.specs.Questions.{answered};
 ghost use Rattle.entries.specs.Visibilities.{asked};
 ghost use Rattle.item_scope.specs.Deliveries.{Takes};
-ghost use Rattle.world_commands.specs.Answers.{delivery_answer, taken_of, ask_answer, place_answer, place_asked, sight_answer, ReadAnswer, AskTextAnswer, AnswerTo, After};
+ghost use Rattle.world_commands.specs.Answers.{delivery_answer, taken_of, ask_answer, place_answer, place_asked, sight_answer, IsReadAs, IsAskedAs, TextAnswer, PathRead, AnswerTo, After};
 
 use crate::answer::Answer;
 use crate::command::Command;
@@ -87,24 +87,40 @@ fn sight<I: Index>(index: &I, vis: Visibility, from: ModuleId) -> Answer
     }
 }
 
+// The path that a text stands for, or why it stands for none, which may be that there is no list.
+fn path_of(
+    alloc: Global,
+    names: &Result<NameList, TextFault>,
+    text: &[u8],
+) -> Result<Result<ModPath, TextFault>, AllocError>
+    ensures { PathRead names.now text.now result }
+{
+    let list = match names {
+        Ok(list) => list,
+        Err(fault) => return Ok(Err(*fault)),
+    };
+    match read_path(alloc, list, text) {
+        Ok(path) => Ok(Ok(path)),
+        Err(Failure::Refused(fault)) => Ok(Err(fault)),
+        Err(Failure::Memory(e)) => Err(e),
+    }
+}
+
+#[tactic(auto, using(crate::proofs::Texts::no_memory, crate::proofs::Texts::path_read, crate::proofs::Texts::none_read))]
 fn read(
     alloc: Global,
     names: &Result<NameList, TextFault>,
     text: &[u8],
 ) -> Result<Answer, AllocError>
-    ensures { ReadAnswer names.now text.now result }
+    ensures { TextAnswer IsReadAs names.now text.now result }
 {
-    let list = match names {
-        Ok(list) => list,
-        Err(fault) => return Ok(Answer::Refused(Fault::Text(*fault))),
-    };
-    match read_path(alloc, list, text) {
+    match path_of(alloc, names, text)? {
         Ok(path) => Ok(Answer::Read(path)),
-        Err(Failure::Refused(fault)) => Ok(Answer::Refused(Fault::Text(fault))),
-        Err(Failure::Memory(e)) => Err(e),
+        Err(fault) => Ok(Answer::Refused(Fault::Text(fault))),
     }
 }
 
+#[tactic(auto, using(crate::proofs::Texts::no_memory, crate::proofs::Texts::path_asked, crate::proofs::Texts::none_asked))]
 fn ask_text<I: Index>(
     alloc: Global,
     index: &I,
@@ -112,16 +128,11 @@ fn ask_text<I: Index>(
     names: &Result<NameList, TextFault>,
     text: &[u8],
 ) -> Result<Answer, AllocError>
-    ensures { AskTextAnswer (I.view index.now) question names.now text.now result }
+    ensures { TextAnswer (IsAskedAs (I.view index.now) question) names.now text.now result }
 {
-    let list = match names {
-        Ok(list) => list,
-        Err(fault) => return Ok(Answer::Refused(Fault::Text(*fault))),
-    };
-    match read_path(alloc, list, text) {
+    match path_of(alloc, names, text)? {
         Ok(path) => Ok(ask(index, question, &path)),
-        Err(Failure::Refused(fault)) => Ok(Answer::Refused(Fault::Text(fault))),
-        Err(Failure::Memory(e)) => Err(e),
+        Err(fault) => Ok(Answer::Refused(Fault::Text(fault))),
     }
 }
 

@@ -3,11 +3,12 @@ use std::alloc::Global;
 use std::io;
 use std::io::BufRead;
 
-/// A line, as its first word and what follows that word's blank. Bytes that are no text have no words.
+/// A line, and its first word and what follows that word's blank. Bytes that are no text have no words.
 #[derive(Clone, Copy)]
 pub(crate) struct Line<'a> {
     /// Lines count from 1.
     pub number: usize,
+    pub text: &'a str,
     pub verb: &'a str,
     pub rest: &'a str,
 }
@@ -58,6 +59,7 @@ impl<R: BufRead + Drop> Lines<R> {
         let (verb, rest) = text.split_once(' ').unwrap_or((text, ""));
         Line {
             number: self.number,
+            text,
             verb,
             rest,
         }

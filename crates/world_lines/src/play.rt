@@ -23,7 +23,7 @@ fn answer_line<I: Recipient + Drop, W: Write>(
     world: &mut World<I>,
     line: Line,
 ) -> io::Result<()> {
-    match Command::parse(alloc, line.verb, line.rest)? {
+    match Command::parse(alloc, line.text)? {
         Some(command) => {
             let answer = world.answer(alloc, &command)?;
             writeln!(out, "{answer}")
@@ -120,14 +120,14 @@ fn play_commands<R: BufRead + Drop, W: Write>(
     }
 }
 
-// The name of a world is echoed. Answers whether a line follows.
+// The line of a world is echoed. Answers whether a line follows.
 fn begin<R: BufRead + Drop, W: Write>(lines: &mut Lines<R>, out: &mut W) -> io::Result<bool> {
     let line = lines.line();
     if line.verb != "world" {
         return Ok(true);
     }
-    let label = line.rest;
-    writeln!(out, "world {label}")?;
+    let text = line.text;
+    writeln!(out, "{text}")?;
     lines.advance()
 }
 
@@ -146,7 +146,7 @@ fn play<R: BufRead + Drop, W: Write>(
         let line = lines.line();
         match line.verb {
             "world" => return Ok(true),
-            "go" if line.rest.is_empty() => return play_commands(alloc, lines, out, &tables),
+            "go" if line.text == "go" => return play_commands(alloc, lines, out, &tables),
             _ => {
                 if !tables.read(alloc, line)? {
                     write_bad(out, line.number)?;
