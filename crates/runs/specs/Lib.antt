@@ -1,0 +1,7 @@
+pub mod Chains
+pub mod Compared
+pub mod Hidden
+pub mod Order
+pub mod Runs
+pub mod SmallTree
+pub mod Spaces
