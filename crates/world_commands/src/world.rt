@@ -146,6 +146,13 @@ impl<'n, I: Recipient + Drop> World<'n, I> {
         Ok(World { index, list, names })
     }
 
+    /// The index.
+    pub fn index(&self) -> &I
+        ensures { result.now ≡ self.now.index }
+    {
+        &self.index
+    }
+
     /// The answer to a command. Text is read by a list of exactly the index's names, and refused where the bytes make
     /// none. A delivery that is taken changes the index, and nothing else does.
     pub fn answer(&mut self, alloc: Global, command: &Command) -> Result<Answer, AllocError>

@@ -3,6 +3,7 @@
 
 mod index_rows;
 mod lines;
+mod pile;
 mod play;
 mod tables;
 

@@ -1,5 +1,6 @@
 // One world after another: its tables are loaded at `go`, and its commands answered from them, a line for a line.
-use crate::lines::{Line, Lines};
+use crate::lines::Lines;
+use crate::pile::{answer_pile, write_bad};
 use crate::tables::{Make, Tables};
 use hir_def::fault::{Failure, Fault};
 use indexes::ledger_index::{FREE_LEDGER_ROW, LedgerIndex};
@@ -10,47 +11,6 @@ use std::hash::{BuildHasherDefault, FoldHasher};
 use std::io;
 use std::io::{BufRead, Write};
 use world_commands::answer::Answer;
-use world_commands::command::Command;
-use world_commands::world::World;
-
-fn write_bad<W: Write>(out: &mut W, number: usize) -> io::Result<()> {
-    writeln!(out, "bad line {number}")
-}
-
-fn answer_line<I: Recipient + Drop, W: Write>(
-    alloc: Global,
-    out: &mut W,
-    world: &mut World<I>,
-    line: Line,
-) -> io::Result<()> {
-    match Command::parse(alloc, line.text)? {
-        Some(command) => {
-            let answer = world.answer(alloc, &command)?;
-            writeln!(out, "{answer}")
-        }
-        None => write_bad(out, line.number),
-    }
-}
-
-// Answers each line up to the next world, and whether there is one.
-fn answer_all<I: Recipient + Drop, R: BufRead + Drop, W: Write>(
-    alloc: Global,
-    lines: &mut Lines<R>,
-    out: &mut W,
-    world: &mut World<I>,
-) -> io::Result<bool> {
-    for _ in 0..u64::MAX {
-        if !lines.advance()? {
-            return Ok(false);
-        }
-        let line = lines.line();
-        if line.verb == "world" {
-            return Ok(true);
-        }
-        answer_line(alloc, out, world, line)?;
-    }
-    Ok(false)
-}
 
 // A refused load is told at `go`, and again for each line up to the next world.
 fn refuse_all<R: BufRead + Drop, W: Write>(
@@ -81,10 +41,7 @@ fn answer_loaded<I: Recipient + Drop, R: BufRead + Drop, W: Write>(
     loaded: Result<(), Failure<Fault>>,
 ) -> io::Result<bool> {
     match loaded {
-        Ok(()) => {
-            let mut world = World::new(alloc, index, list)?;
-            answer_all(alloc, lines, out, &mut world)
-        }
+        Ok(()) => answer_pile(alloc, lines, out, index, list),
         Err(Failure::Refused(fault)) => refuse_all(lines, out, fault),
         Err(Failure::Memory(e)) => Err(io::Error::from(e)),
     }
