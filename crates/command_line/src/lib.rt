@@ -1,7 +1,7 @@
 // The command line of feqhazo.
 #![tactic(auto)]
 
-use clap::{Arg, ArgAction, Command, Error};
+use clap::{Arg, ArgAction, Command, Error, value_parser};
 use std::alloc::{AllocError, Global};
 
 /// How a report is written.
@@ -15,12 +15,22 @@ pub enum Format {
     Json,
 }
 
+/// Which make of an index the deliveries are made to.
+#[derive(Clone, Copy, PartialEq, Eq, Debug)]
+pub enum Make {
+    Table,
+    Ledger,
+}
+
 /// What the program is asked to do.
 #[derive(Debug, Drop)]
 pub struct Options<'a> {
     pub format: Format,
     /// The name of each module that sees an item, however many there are.
     pub all: bool,
+    pub make: Make,
+    /// How many rows the index is lent; none for as many as the deliveries may need.
+    pub rows: Option<u32>,
     /// How far the program has come, on standard error.
     pub progress: bool,
     /// The files to read, one at least; `-` is standard input.
@@ -31,7 +41,9 @@ pub struct Options<'a> {
 pub const VERSION: &str = "0.1, proved with rattle-kit-13f logic dac8208d650f15bf";
 
 const ABOUT: &str =
-    "Reads firmware trees with their items and paths, and prints which modules may see each item and what each path was read as";
+    "Reads firmware trees with their items, imports and paths, and prints which modules may see each item, what holds each place and what each path was read as";
+
+static MAKES: [&str; 2] = ["table", "ledger"];
 
 static FORMATS: [&str; 3] = ["text", "lines", "json"];
 
@@ -40,6 +52,13 @@ fn format_of(text: &str) -> Format {
         "lines" => Format::Lines,
         "json" => Format::Json,
         _ => Format::Text,
+    }
+}
+
+fn make_of(text: &str) -> Make {
+    match text {
+        "ledger" => Make::Ledger,
+        _ => Make::Table,
     }
 }
 
@@ -52,6 +71,23 @@ fn format_argument<'a>(alloc: Global) -> Result<Arg<'a>, AllocError> {
             "How the report is written: for people, in lines of words, or as JSON, an object a line",
         )
         .conflicts_with("lines")
+}
+
+fn make_argument<'a>(alloc: Global) -> Arg<'a> {
+    Arg::new(alloc, "make")
+        .long("make")
+        .value_name("MAKE")
+        .value_parser(MAKES.as_slice())
+        .help("The make of the index that the deliveries are made to; the places are the same")
+        .default_value("table")
+}
+
+fn rows_argument<'a>(alloc: Global) -> Arg<'a> {
+    Arg::new(alloc, "rows")
+        .long("rows")
+        .value_name("N")
+        .value_parser(value_parser!(u32))
+        .help("Lends the index no more than N rows, so that it may run out of them")
 }
 
 fn flag<'a>(alloc: Global, name: &'a str, help: &'a str) -> Arg<'a> {
@@ -71,6 +107,8 @@ fn command<'a>(alloc: Global) -> Result<Command<'a>, AllocError> {
         .about(ABOUT)
         .arg(files)?
         .arg(format_argument(alloc)?)?
+        .arg(make_argument(alloc))?
+        .arg(rows_argument(alloc))?
         .arg(flag(alloc, "lines", "Short for --format lines"))?
         .arg(flag(
             alloc,
@@ -97,6 +135,8 @@ pub fn read_options<'a>(alloc: Global, words: &'a [String]) -> Result<Options<'a
     files.extend_from_slice(matches.get_strs("FILE").unwrap_or(&[]))?;
     Ok(Options {
         format,
+        make: make_of(matches.get_str("make").unwrap_or("table")),
+        rows: matches.get_one::<u32>("rows"),
         all: matches.get_flag("all"),
         progress: matches.get_flag("progress"),
         files,

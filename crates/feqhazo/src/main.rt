@@ -1,10 +1,12 @@
-// feqhazo: reads firmware trees and prints which modules may see each of their items, and what their paths are read as.
+// feqhazo: reads firmware trees and prints which modules may see each of their items, what holds their places after all deliveries,
+// and what their paths are read as.
 #![tactic(auto)]
 
 use anyhow::anyhow;
 use command_line::{Format, Options, read_options};
 use reports::files::{File, ReportError, report_files};
-use reports::report::{Form, Style};
+use reports::indexed::{Lending, Make};
+use reports::style::{Form, Style};
 use std::io::{BufWriter, Read};
 use std::process::ExitCode;
 use std::{env, fs, io};
@@ -19,6 +21,16 @@ fn style_of(options: &Options) -> Style {
         form,
         all: options.all,
         progress: options.progress,
+    }
+}
+
+fn lending_of(options: &Options) -> Lending {
+    Lending {
+        make: match options.make {
+            command_line::Make::Table => Make::Table,
+            command_line::Make::Ledger => Make::Ledger,
+        },
+        rows: options.rows.map_or(usize::MAX, |rows| rows as usize),
     }
 }
 
@@ -71,6 +83,7 @@ fn report(rt: &HostRuntime, options: &Options) -> anyhow::Result<ExitCode> {
         &mut progress,
         files.as_slice(),
         style_of(options),
+        lending_of(options),
     ) {
         Ok(()) => Ok(ExitCode::SUCCESS),
         Err(error) => Ok(tell(rt, error)?),

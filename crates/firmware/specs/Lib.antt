@@ -1,2 +1,5 @@
+pub mod Definitions
+pub mod Deliveries
+pub mod Kinds
 pub mod Paths
 pub mod Surveys

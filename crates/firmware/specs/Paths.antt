@@ -11,7 +11,7 @@ use Rattle.hir_def.specs.declared.fault.Failure.{Failure}
 use Rattle.hir_def.specs.declared.fault.Failure.TheVariants.{Memory, Refused}
 use Rattle.firmware.specs.declared.complaint.Complaint.{Complaint}
 use Rattle.firmware.specs.declared.trouble.Trouble.{Trouble}
-use Rattle.firmware.specs.declared.trouble.Trouble.TheVariants.{Text, Tree}
+use Rattle.firmware.specs.declared.trouble.Trouble.TheVariants.{Text, Tables}
 use Rattle.source_text.specs.declared.words.Word.{Word}
 
 -- each path is the reading of its word
@@ -41,7 +41,7 @@ TellsAt w f c = (c.line ≡ w.line) × (c.column ≡ column_at w.column (byte_of
 abbrev pub Tells : Word → Failure TextFault → Failure Trouble → Type 0
 Tells w (Memory e) r = r ≡ Memory e
 Tells w (Refused f) (Refused (Text c)) = TellsAt w f c
-Tells w (Refused f) (Refused (Tree g)) = ⊥
+Tells w (Refused f) (Refused (Tables g)) = ⊥
 Tells w (Refused f) (Memory e) = ⊥
 
 -- the first bad word, after words that were read, and where it is told

@@ -1,10 +1,19 @@
-// A firmware tree as a text file: read by statements, and taken whole or not at all.
+// A firmware tree as a text file: read by statements, and taken whole or not at all; and its deliveries, made to an index.
 #![tactic(auto)]
 
+mod asking;
+mod clauses;
 pub mod complaint;
+pub mod definition;
+pub mod definitions;
+pub mod deliveries;
+mod items;
+mod modules;
+mod names;
 mod path_words;
 pub mod reader;
 mod statement;
 pub mod survey;
+mod tables;
 pub mod trouble;
 mod words;

@@ -1,17 +1,23 @@
-// Reads a firmware file into the tables of its module tree and the list of its items.
+// Reads a firmware file into the tables of an index, the list of its items, and its deliveries.
+use crate::asking::Asking;
+use crate::clauses::{RawVisibility, Site};
 use crate::complaint::Complaint;
-use crate::statement::{RawVisibility, Statement};
+use crate::definitions::Definitions;
+use crate::names::{name_of, numbered, text_of};
+use crate::statement::Statement;
+use crate::tables::IndexRows;
 use crate::trouble::Trouble;
 use crate::words::StatementWords;
-use bstr::ByteSlice;
+use entries::per_ns::PerNs;
 use entries::visibility::{Visibility, VisibilityExplicitness};
-use hir_def::edition::Edition;
 use hir_def::fault::Failure;
-use hir_def::{BlockId, CrateId, ModuleId};
+use hir_def::import::ImportOrExternCrate;
+use hir_def::{BlockId, CrateId, ModuleId, Name};
+use item_scope::delivery::Delivery;
+use item_scope::index_data::DefMapId;
 use nameres::tree_rows::{BlockRow, CrateRow, ModuleRow};
+use path_resolution::question::Question;
 use path_text::name_list::NameList;
-use path_text::path_text::is_name;
-use source_text::number::number;
 use source_text::words::Word;
 use std::alloc::Global;
 use std::collections::BTreeMap;
@@ -25,12 +31,25 @@ pub struct Declared<'a> {
     pub vis: Visibility,
 }
 
+/// A delivery, and the statement that makes it.
+#[derive(Clone, Copy, Debug)]
+pub struct DeliveryStatement<'a> {
+    pub delivery: Delivery,
+    pub name: &'a str,
+    /// The full name of the receiving module.
+    pub module: &'a str,
+    /// Lines count from 1.
+    pub line: usize,
+}
+
 // A module that a statement declared.
 #[derive(Clone, Copy)]
-struct Known {
-    id: ModuleId,
-    krate: CrateId,
-    block: Option<BlockId>,
+pub(crate) struct Known {
+    pub(crate) id: ModuleId,
+    pub(crate) krate: CrateId,
+    pub(crate) block: Option<BlockId>,
+    // The map whose root it is.
+    pub(crate) root_of: Option<DefMapId>,
 }
 
 /// What the statements of a file declare.
@@ -42,65 +61,24 @@ pub struct Firmware<'a> {
     pub(crate) blocks: Vec<BlockRow>,
     pub(crate) crates: Vec<CrateRow>,
     pub items: Vec<Declared<'a>>,
+    pub definitions: Definitions<'a>,
+    pub deliveries: Vec<DeliveryStatement<'a>>,
+    pub(crate) tables: IndexRows<'a>,
     pub(crate) paths: Vec<Word<'a>>,
+    /// Who asks each path, if anyone does.
+    pub questions: Vec<Option<Question>>,
     /// The names that the file declares, after the built-in ones.
     pub list: NameList<'a>,
-    by_name: BTreeMap<&'a [u8], Known>,
+    // How many names the list has.
+    pub(crate) name_count: u32,
+    pub(crate) by_name: BTreeMap<&'a [u8], Known>,
+    // What is declared with a kind, by what stands before the last `::` of its full name and the name after it.
+    pub(crate) declared: BTreeMap<(&'a [u8], &'a [u8]), PerNs>,
 }
+
+const BUILTIN_NAMES: u32 = 19;
 
 const MODULE: &str = "the full name of a module declared above, as in `raid::layout`";
-
-const NAME: &str =
-    "an identifier (a letter or `_`, then letters, digits or `_`, and not `_` alone) other than `crate`, `self` and `super`";
-
-fn name_of<'a>(word: Word<'a>) -> Result<&'a str, Complaint> {
-    if !is_name(word.text) {
-        return Err(Complaint::at(word, "this is no name", NAME));
-    }
-    text_of(word)
-}
-
-fn text_of<'a>(word: Word<'a>) -> Result<&'a str, Complaint> {
-    match std::str::from_utf8(word.text) {
-        Ok(text) => Ok(text),
-        Err(_) => Err(Complaint::at(word, "these bytes are no text", "text in UTF-8")),
-    }
-}
-
-// A full name as the module before its last `::` and the name after it.
-fn split<'a>(word: Word<'a>) -> Result<(Word<'a>, Word<'a>), Complaint> {
-    let Some((outer, name)) = word.text.rsplit_once_str(b"::") else {
-        return Err(Complaint::at(
-            word,
-            "this name has no `::`",
-            "a full name: the module around it, `::` and a name, as in `raid::layout`",
-        ));
-    };
-    let outer_word = Word {
-        text: outer,
-        line: word.line,
-        column: word.column,
-    };
-    let name_word = Word {
-        text: name,
-        line: word.line,
-        column: word.column.saturating_add(outer.len() + 2),
-    };
-    Ok((outer_word, name_word))
-}
-
-// `#7` is the module of row 7, whether or not there is one.
-fn numbered(text: &[u8]) -> Option<u32> {
-    let digits = text.strip_prefix(b"#")?;
-    number(std::str::from_utf8(digits).ok()?)
-}
-
-fn row_number(word: Word, count: usize) -> Result<u32, Complaint> {
-    match u32::try_from(count) {
-        Ok(n) => Ok(n),
-        Err(_) => Err(Complaint::at(word, "there are too many", "at most 4294967295 of a kind")),
-    }
-}
 
 impl<'a> Firmware<'a> {
     fn new(alloc: Global) -> Result<Firmware<'a>, Failure<Trouble>> {
@@ -110,80 +88,84 @@ impl<'a> Firmware<'a> {
             blocks: Vec::new(alloc),
             crates: Vec::new(alloc),
             items: Vec::new(alloc),
+            definitions: Definitions::new(alloc),
+            deliveries: Vec::new(alloc),
+            tables: IndexRows::new(alloc),
             paths: Vec::new(alloc),
+            questions: Vec::new(alloc),
             list: NameList::built_in(alloc)?,
+            name_count: BUILTIN_NAMES,
             by_name: BTreeMap::new(alloc),
+            declared: BTreeMap::new(alloc),
         })
     }
 
-    // The name of a statement, which the paths of the file may have.
-    fn list_name(&mut self, word: Word<'a>) -> Result<&'a str, Failure<Trouble>> {
+    // The name of a statement, which the paths of the file may have, and its number.
+    pub(crate) fn list_name(
+        &mut self,
+        word: Word<'a>,
+    ) -> Result<(&'a str, Name), Failure<Trouble>> {
         let name = name_of(word)?;
         self.list.add(word.text)?;
-        Ok(name)
+        match self.list.number(word.text) {
+            Some(number) => {
+                self.name_count = self.name_count.max(number.0.saturating_add(1));
+                Ok((name, number))
+            }
+            None => Err(Failure::from(Complaint::at(word, "this is no name", "a name"))),
+        }
     }
 
-    fn known(&self, word: Word<'a>) -> Result<Known, Complaint> {
+    pub(crate) fn known(&self, word: Word<'a>) -> Result<Known, Complaint> {
         match self.by_name.get(word.text) {
             Some(known) => Ok(*known),
             None => Err(Complaint::at(word, "no module of this name is declared above", MODULE)),
         }
     }
 
-    fn add_module(
+    // What is declared first with a full name holds it, in each namespace.
+    pub(crate) fn declare(
         &mut self,
-        word: Word<'a>,
-        krate: CrateId,
-        block: Option<BlockId>,
-        parent: Option<ModuleId>,
+        within: &'a [u8],
+        name: &'a [u8],
+        entries: PerNs,
     ) -> Result<(), Failure<Trouble>> {
-        if self.by_name.contains_key(word.text) {
-            return Err(Failure::from(Complaint::at(
-                word,
-                "a module of this name is declared above",
-                "a name of its own",
-            )));
-        }
-        let id = ModuleId(row_number(word, self.modules.len())?);
-        self.names.push(text_of(word)?)?;
-        self.modules.push(ModuleRow {
-            krate,
-            block,
-            parent,
-        })?;
-        self.by_name.insert(word.text, Known { id, krate, block })?;
+        let known = match self.declared.get(&(within, name)) {
+            Some(known) => known.or(entries),
+            None => entries,
+        };
+        self.declared.insert((within, name), known)?;
         Ok(())
     }
 
-    fn add_crate(&mut self, word: Word<'a>, edition: Edition) -> Result<(), Failure<Trouble>> {
-        self.list_name(word)?;
-        let krate = CrateId(row_number(word, self.crates.len())?);
-        let root = ModuleId(row_number(word, self.modules.len())?);
-        self.crates.push(CrateRow { root, edition })?;
-        self.add_module(word, krate, None, None)
-    }
-
-    fn add_inner(&mut self, word: Word<'a>) -> Result<(), Failure<Trouble>> {
-        let (outer, name) = split(word)?;
-        self.list_name(name)?;
-        let parent = self.known(outer)?;
-        self.add_module(word, parent.krate, parent.block, Some(parent.id))
-    }
-
-    fn add_block(&mut self, word: Word<'a>) -> Result<(), Failure<Trouble>> {
-        let (outer, name) = split(word)?;
-        self.list_name(name)?;
-        let outside = self.known(outer)?;
-        let block = BlockId(row_number(word, self.blocks.len())?);
-        let root = ModuleId(row_number(word, self.modules.len())?);
-        self.blocks.push(BlockRow {
-            root,
-            outside: outside.id,
+    pub(crate) fn deliver(
+        &mut self,
+        receiver: ModuleId,
+        word: Word<'a>,
+        module: Word<'a>,
+        entries: PerNs,
+        import: Option<ImportOrExternCrate>,
+    ) -> Result<(), Failure<Trouble>> {
+        let (name, number) = self.list_name(word)?;
+        self.deliveries.push(DeliveryStatement {
+            delivery: Delivery {
+                receiver,
+                name: number,
+                entries,
+                import,
+            },
+            name,
+            module: text_of(module)?,
+            line: word.line,
         })?;
-        self.add_module(word, outside.krate, Some(block), None)
+        Ok(())
     }
 
-    fn visibility(&self, at: Known, raw: RawVisibility<'a>) -> Result<Visibility, Complaint> {
+    pub(crate) fn visibility(
+        &self,
+        at: Known,
+        raw: RawVisibility<'a>,
+    ) -> Result<Visibility, Complaint> {
         match raw {
             RawVisibility::Public => Ok(Visibility::Public),
             RawVisibility::Crate => Ok(Visibility::PubCrate(at.krate)),
@@ -201,30 +183,58 @@ impl<'a> Firmware<'a> {
         }
     }
 
-    fn add_item(
+    // An item, and the module that it stands in.
+    pub(crate) fn add_item(
         &mut self,
-        word: Word<'a>,
-        module: Word<'a>,
-        raw: RawVisibility<'a>,
-    ) -> Result<(), Failure<Trouble>> {
-        let name = self.list_name(word)?;
-        let at = self.known(module)?;
-        let vis = self.visibility(at, raw)?;
+        site: Site<'a>,
+    ) -> Result<(Known, Visibility), Failure<Trouble>> {
+        let (name, _) = self.list_name(site.name)?;
+        let at = self.known(site.module)?;
+        let vis = self.visibility(at, site.vis)?;
         self.items.push(Declared {
             name,
-            module: text_of(module)?,
+            module: text_of(site.module)?,
             vis,
         })?;
+        Ok((at, vis))
+    }
+
+    fn add_path(
+        &mut self,
+        text: Word<'a>,
+        asking: Option<Asking<'a>>,
+    ) -> Result<(), Failure<Trouble>> {
+        let question = match asking {
+            Some(asking) => Some(asking.question(self.known(asking.module)?.id)),
+            None => None,
+        };
+        self.paths.push(text)?;
+        self.questions.push(question)?;
         Ok(())
     }
 
     fn add(&mut self, statement: Statement<'a>) -> Result<(), Failure<Trouble>> {
         match statement {
             Statement::Crate(name, edition) => self.add_crate(name, edition),
-            Statement::Module(name) => self.add_inner(name),
+            Statement::Module(name, raw) => self.add_inner(name, raw),
             Statement::Block(name) => self.add_block(name),
-            Statement::Item(name, module, raw) => self.add_item(name, module, raw),
-            Statement::Path(text) => Ok(self.paths.push(text)?),
+            Statement::Item(site) => {
+                self.add_item(site)?;
+                Ok(())
+            }
+            Statement::Defined(kind, site) => self.add_definition(kind, site),
+            Statement::Variant(name, shape) => self.add_variant(name, shape),
+            Statement::LegacyMacro(name, module, None) => self.add_legacy(name, module),
+            Statement::LegacyMacro(name, module, Some(meant)) => {
+                self.add_legacy_of(name, module, meant)
+            }
+            Statement::Use(bringing, full, site) => self.add_use(bringing, full, site),
+            Statement::ExternPrelude(name, krate, meant) => {
+                self.add_extern_prelude(name, krate, meant)
+            }
+            Statement::MacroUse(name, map, meant) => self.add_macro_use(name, map, meant),
+            Statement::Prelude(module, map) => self.add_prelude(module, map),
+            Statement::Path(text, asking) => self.add_path(text, asking),
         }
     }
 

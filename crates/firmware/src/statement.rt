@@ -1,83 +1,94 @@
 // One statement of a firmware file, as its words say it.
+use crate::asking::{Asking, read_asking};
+use crate::clauses::{
+    EDITION, MODULE, RawVisibility, Site, VISIBILITY, WITHIN, read_edition, read_optional,
+    read_shape, read_site, read_styles, visibility_of,
+};
 use crate::complaint::Complaint;
+use crate::definition::{Bringing, ItemKind, Shape};
+use crate::names::last_name;
 use crate::words::StatementWords;
 use hir_def::edition::Edition;
 use source_text::words::Word;
 
-/// A visibility as it is written.
-#[derive(Clone, Copy)]
-pub(crate) enum RawVisibility<'a> {
-    Public,
-    Crate,
-    In(Word<'a>),
-    Private,
-}
-
 #[derive(Clone, Copy)]
 pub(crate) enum Statement<'a> {
     Crate(Word<'a>, Edition),
-    Module(Word<'a>),
+    Module(Word<'a>, RawVisibility<'a>),
     Block(Word<'a>),
-    /// An item's name, the module it stands in, and its visibility.
-    Item(Word<'a>, Word<'a>, RawVisibility<'a>),
-    Path(Word<'a>),
+    /// An item whose kind is not told.
+    Item(Site<'a>),
+    Defined(ItemKind, Site<'a>),
+    /// The variant's full name, and its shape.
+    Variant(Word<'a>, Shape),
+    /// The name, the module, and the full name of the macro that it means there, if it is not a new one.
+    LegacyMacro(Word<'a>, Word<'a>, Option<Word<'a>>),
+    /// What is imported by its full name, and where to under which name.
+    Use(Bringing, Word<'a>, Site<'a>),
+    /// A name, a crate, and the crate that the name means there.
+    ExternPrelude(Word<'a>, Word<'a>, Word<'a>),
+    /// A name, a crate or a block, and the macro that the name means there.
+    MacroUse(Word<'a>, Word<'a>, Word<'a>),
+    /// A module, and the crate or block that it is the prelude of.
+    Prelude(Word<'a>, Word<'a>),
+    /// A path, and who asks it, if anyone does.
+    Path(Word<'a>, Option<Asking<'a>>),
 }
 
-const EDITION: &str = "an edition: 2015, 2018, 2021 or 2024";
-
-const VISIBILITY: &str = "a visibility: `pub`, `pub(crate)`, `pub(in MODULE)` or `private`";
-
-fn read_edition(word: Word) -> Result<Edition, Complaint> {
-    std::str::from_utf8(word.text)
-        .ok()
-        .and_then(|text| text.parse::<Edition>().ok())
-        .ok_or(Complaint::at(word, "this is no edition", EDITION))
+fn read_legacy<'a>(words: &mut StatementWords<'a>) -> Result<Statement<'a>, Complaint> {
+    let name = words.expect("the macro's name")?;
+    words.keyword("in", WITHIN)?;
+    let module = words.expect(MODULE)?;
+    let meant = match words.next_word() {
+        None => None,
+        Some(word) if word.is("is") => Some(words.expect("the full name of a macro")?),
+        Some(word) => {
+            return Err(Complaint::at(
+                word,
+                "this word cannot stand here",
+                "`is` and the full name of a macro declared above, or the end of the line",
+            ));
+        }
+    };
+    Ok(Statement::LegacyMacro(name, module, meant))
 }
 
-// `MODULE)`, after `pub(in`.
-fn closed<'a>(word: Word<'a>) -> Result<Word<'a>, Complaint> {
-    match word.text {
-        [text @ .., b')'] => Ok(Word {
-            text,
-            line: word.line,
-            column: word.column,
-        }),
-        _ => Err(Complaint::at(
-            word,
-            "the parenthesis is not closed",
-            "a module and then `)`, as in `pub(in raid::layout)`",
-        )),
+// `FULL in MODULE VISIBILITY` or, where a name may be given, `FULL as NAME in MODULE VISIBILITY`.
+fn read_use<'a>(
+    bringing: Bringing,
+    words: &mut StatementWords<'a>,
+) -> Result<Statement<'a>, Complaint> {
+    let is_glob = matches!(bringing, Bringing::Glob);
+    let expected = if is_glob { WITHIN } else { "`in` or `as`" };
+    let full = words.expect("what is imported, by its full name")?;
+    let word = words.expect(expected)?;
+    let mut name = last_name(full);
+    if word.is("as") && !is_glob {
+        name = words.expect("the name that it has here")?;
+        words.keyword("in", WITHIN)?;
+    } else if !word.is("in") {
+        return Err(Complaint::at(word, "this word cannot stand here", expected));
     }
-}
-
-fn read_visibility<'a>(words: &mut StatementWords<'a>) -> Result<RawVisibility<'a>, Complaint> {
+    let module = words.expect("the module that imports")?;
     let word = words.expect(VISIBILITY)?;
-    if word.is("pub") {
-        Ok(RawVisibility::Public)
-    } else if word.is("pub(crate)") {
-        Ok(RawVisibility::Crate)
-    } else if word.is("private") {
-        Ok(RawVisibility::Private)
-    } else if word.is("pub(in") {
-        let module = words.expect("a module, as in `pub(in raid::layout)`")?;
-        Ok(RawVisibility::In(closed(module)?))
-    } else {
-        Err(Complaint::at(word, "this is no visibility", VISIBILITY))
-    }
+    let vis = visibility_of(word, words)?;
+    Ok(Statement::Use(bringing, full, Site { name, module, vis }))
 }
 
-fn read_item<'a>(words: &mut StatementWords<'a>) -> Result<Statement<'a>, Complaint> {
-    let name = words.expect("the item's name")?;
-    let within = words.expect("`in` and the module that the item stands in")?;
-    if !within.is("in") {
-        return Err(Complaint::at(
-            within,
-            "this word cannot stand here",
-            "`in` and the module that the item stands in",
-        ));
-    }
-    let module = words.expect("the module that the item stands in")?;
-    Ok(Statement::Item(name, module, read_visibility(words)?))
+// `NAME in CRATE is MEANT`.
+fn read_meaning<'a>(
+    expected: &'static str,
+    words: &mut StatementWords<'a>,
+) -> Result<(Word<'a>, Word<'a>, Word<'a>), Complaint> {
+    let name = words.expect("a name")?;
+    words.keyword("in", "`in` and a crate")?;
+    let within = words.expect("a crate")?;
+    words.keyword("is", "`is` and what the name means")?;
+    Ok((name, within, words.expect(expected)?))
+}
+
+fn defined<'a>(kind: ItemKind, words: &mut StatementWords<'a>) -> Result<Statement<'a>, Complaint> {
+    Ok(Statement::Defined(kind, read_site(words)?))
 }
 
 impl<'a> Statement<'a> {
@@ -86,25 +97,68 @@ impl<'a> Statement<'a> {
         let Some(verb) = words.next_word() else {
             return Ok(None);
         };
-        let statement = if verb.is("crate") {
-            let name = words.expect("the crate's name")?;
-            Statement::Crate(name, read_edition(words.expect(EDITION)?)?)
-        } else if verb.is("module") {
-            Statement::Module(words.expect("the module's full name")?)
-        } else if verb.is("block") {
-            Statement::Block(words.expect("the block's full name")?)
-        } else if verb.is("item") {
-            read_item(&mut words)?
-        } else if verb.is("path") {
-            Statement::Path(words.expect("a path, as in `crate::layout::stripe_of`")?)
-        } else {
-            return Err(Complaint::at(
-                verb,
-                "no statement begins so",
-                "`crate`, `module`, `block`, `item` or `path`",
-            ));
-        };
+        let statement = Statement::after(verb, &mut words)?;
         words.expect_end()?;
         Ok(Some(statement))
+    }
+
+    fn after(verb: Word<'a>, words: &mut StatementWords<'a>) -> Result<Statement<'a>, Complaint> {
+        match std::str::from_utf8(verb.text).unwrap_or("") {
+            "crate" => {
+                let name = words.expect("the crate's name")?;
+                Ok(Statement::Crate(name, read_edition(words.expect(EDITION)?)?))
+            }
+            "module" => {
+                let name = words.expect("the module's full name")?;
+                Ok(Statement::Module(name, read_optional(words)?))
+            }
+            "block" => Ok(Statement::Block(words.expect("the block's full name")?)),
+            "item" => Ok(Statement::Item(read_site(words)?)),
+            "fn" => defined(ItemKind::Function, words),
+            "const" => defined(ItemKind::Const, words),
+            "static" => defined(ItemKind::Static, words),
+            "union" => defined(ItemKind::Union, words),
+            "enum" => defined(ItemKind::Enum, words),
+            "trait" => defined(ItemKind::Trait, words),
+            "type" => defined(ItemKind::TypeAlias, words),
+            "struct" => {
+                let site = read_site(words)?;
+                Ok(Statement::Defined(ItemKind::Struct(read_shape(words)?), site))
+            }
+            "macro" => {
+                let site = read_site(words)?;
+                Ok(Statement::Defined(ItemKind::Macro(read_styles(words)?), site))
+            }
+            "variant" => {
+                let name = words.expect("the variant's full name")?;
+                Ok(Statement::Variant(name, read_shape(words)?))
+            }
+            "legacy-macro" => read_legacy(words),
+            "use" => read_use(Bringing::Named, words),
+            "use-glob" => read_use(Bringing::Glob, words),
+            "extern-crate" => read_use(Bringing::ExternCrate, words),
+            "extern-prelude" => {
+                let (name, within, meant) = read_meaning("the crate that it means", words)?;
+                Ok(Statement::ExternPrelude(name, within, meant))
+            }
+            "macro-use" => {
+                let (name, within, meant) = read_meaning("the full name of a macro", words)?;
+                Ok(Statement::MacroUse(name, within, meant))
+            }
+            "prelude" => {
+                let module = words.expect("the full name of a module")?;
+                words.keyword("in", "`in` and a crate or a block")?;
+                Ok(Statement::Prelude(module, words.expect("a crate or a block")?))
+            }
+            "path" => {
+                let path = words.expect("a path, as in `crate::layout::stripe_of`")?;
+                Ok(Statement::Path(path, read_asking(words)?))
+            }
+            _ => Err(Complaint::at(
+                verb,
+                "no statement begins so",
+                "the first word of a statement, as `crate`, `module`, `fn`, `use` or `path`",
+            )),
+        }
     }
 }

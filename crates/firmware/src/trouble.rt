@@ -1,10 +1,10 @@
 // Why a file is not taken, and how that is told.
 ghost use Rattle.std.specs.Prelude.{◌≡◌, alloc_error};
 ghost use Rattle.hir_def.specs.declared.fault.Failure.TheVariants.{Memory, Refused};
-ghost use Rattle.firmware.specs.declared.trouble.Trouble.TheVariants.{Text, Tree};
+ghost use Rattle.firmware.specs.declared.trouble.Trouble.TheVariants.{Text, Tables};
 
 use crate::complaint::Complaint;
-use hir_def::fault::{Failure, Fault, FaultCode, TreeFault};
+use hir_def::fault::{Failure, Fault, FaultCode};
 use source_text::excerpt::Excerpt;
 use std::fmt;
 use thiserror::Error;
@@ -15,9 +15,9 @@ pub enum Trouble {
     /// A statement or a path is bad.
     #[error(transparent)]
     Text(Complaint),
-    /// Its modules make no tree.
+    /// Its tables make no index.
     #[error(transparent)]
-    Tree(TreeFault),
+    Tables(Fault),
 }
 
 /// Why a file of that name and text is not taken, as a person reads it: a bad statement with its line and a caret under the
@@ -96,9 +96,13 @@ impl<'a> fmt::Display for Located<'a> {
                 };
                 write!(f, "{path}{told}")
             }
-            Trouble::Tree(fault) => {
-                let told = FaultTold(Fault::Tree(fault));
-                write!(f, "{path}: the module tree is refused by {told}\n")
+            Trouble::Tables(fault) => {
+                let table = match fault {
+                    Fault::Tree(_) => "the module tree is",
+                    _ => "the tables of the index are",
+                };
+                let told = FaultTold(fault);
+                write!(f, "{path}: {table} refused by {told}\n")
             }
         }
     }

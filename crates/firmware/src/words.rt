@@ -36,6 +36,16 @@ impl<'a> StatementWords<'a> {
         })
     }
 
+    /// Passes a word that has to stand there.
+    pub(crate) fn keyword(&mut self, text: &str, expected: &'static str) -> Result<(), Complaint> {
+        let word = self.expect(expected)?;
+        if word.is(text) {
+            Ok(())
+        } else {
+            Err(Complaint::at(word, "this word cannot stand here", expected))
+        }
+    }
+
     pub(crate) fn expect_end(&mut self) -> Result<(), Complaint> {
         match self.next_word() {
             Some(word) => Err(Complaint::at(

@@ -4,6 +4,7 @@ use Rattle.hir_def.specs.declared.ModuleId.{ModuleId}
 use Rattle.entries.specs.declared.account.Account.{Account}
 use Rattle.firmware.specs.declared.reader.Declared.{Declared}
 use Rattle.serde_json.specs.Data.{Data, null, number, unsigned, string, object, member, no_members}
+use Rattle.reports.specs.declared.counts.DeliveryCounts.{DeliveryCounts}
 use Rattle.reports.specs.declared.range.Range.{Range}
 use Rattle.reports.specs.declared.range.Range.TheVariants.{All, Crate, Inside}
 use Rattle.reports.specs.declared.seen.Seen.{Seen}
@@ -18,15 +19,18 @@ file_data path modules items paths = object
     (member (codes "modules") (number (unsigned modules))
     (member (codes "paths") (number (unsigned paths)) no_members)))))
 
-abbrev pub account_data : Account → ℕ → ℕ → Data
-account_data a modules paths = object
+abbrev pub account_data : Account → ℕ → ℕ → DeliveryCounts → Data
+account_data a modules paths d = object
+    (member (codes "changed") (number (unsigned d.changed))
     (member (codes "hidden") (number (unsigned a.hidden))
     (member (codes "items") (number (unsigned a.items))
     (member (codes "kind") (string (codes "account"))
     (member (codes "modules") (number (unsigned modules))
     (member (codes "paths") (number (unsigned paths))
     (member (codes "refused") (number (unsigned a.refused))
-    (member (codes "seen") (number (unsigned a.seen)) no_members)))))))
+    (member (codes "refused_deliveries") (number (unsigned d.refused))
+    (member (codes "seen") (number (unsigned a.seen))
+    (member (codes "unchanged") (number (unsigned d.unchanged)) no_members))))))))))
 
 -- the name of a crate's root, or of the module that all others are inside
 abbrev pub of_data : List (List ℕ) → Range → ModuleId → Data

@@ -1,5 +1,11 @@
 pub mod Ranges
 pub mod Shown
 pub mod Counts
+pub mod Outcomes
+pub mod Holders
+pub mod Places
 pub mod Told
 pub mod Json
+pub mod PlaceJson
+pub mod Answers
+pub mod AnswerJson

@@ -6,6 +6,8 @@ use Rattle.hir_def.specs.declared.fault.FaultCode.{FaultCode}
 use Rattle.hir_def.specs.FaultTexts.{code_text}
 use Rattle.firmware.specs.declared.reader.Declared.{Declared}
 use Rattle.entries.specs.declared.account.Account.{Account}
+use Rattle.reports.specs.declared.counts.DeliveryCounts.{DeliveryCounts}
+use Rattle.reports.specs.Outcomes.{counts_text}
 use Rattle.reports.specs.declared.range.Range.{Range}
 use Rattle.reports.specs.declared.range.Range.TheVariants.{All, Crate, Inside}
 use Rattle.reports.specs.declared.seen.Seen.{Seen}
@@ -51,6 +53,6 @@ refused_line d c = codes "refused " ++ d.name.now ++ codes " " ++ d.module.now +
 abbrev pub pair : ℕ → ℕ → List ℕ
 pair a b = decimal a ++ codes " " ++ decimal b
 
-abbrev pub account_line : Account → ℕ → ℕ → List ℕ
-account_line a modules paths =
-    codes "account " ++ pair a.items modules ++ codes " " ++ pair a.seen a.hidden ++ codes " " ++ pair a.refused paths ++ codes "\n"
+abbrev pub account_line : Account → ℕ → ℕ → DeliveryCounts → List ℕ
+account_line a modules paths d =
+    codes "account " ++ pair a.items modules ++ codes " " ++ pair a.seen a.hidden ++ codes " " ++ pair a.refused paths ++ codes " " ++ counts_text d

@@ -2,7 +2,9 @@
 ghost use Rattle.std.specs.Prelude.{◌≡◌};
 ghost use Rattle.reports.specs.declared.files.ReportError.TheVariants.{Memory, Write};
 
-use crate::report::{Form, Style, write_heading, write_report};
+use crate::indexed::{Lending, write_indexed};
+use crate::report::write_heading;
+use crate::style::{Form, Style};
 use firmware::reader::Firmware;
 use firmware::survey::Survey;
 use firmware::trouble::{Located, Trouble};
@@ -98,6 +100,7 @@ fn write_all<W: io::Write, E: io::Write>(
     files: &[File],
     surveys: &[Survey],
     style: Style,
+    lending: Lending,
 ) -> io::Result<()> {
     let headed = files.len() > 1 || style.form == Form::Json;
     for (i, (survey, file)) in surveys.iter().zip(files).enumerate() {
@@ -107,22 +110,31 @@ fn write_all<W: io::Write, E: io::Write>(
         if headed {
             write_heading(alloc, w, file.path, survey, style.form)?;
         }
-        write_report(alloc, w, progress, file.path, survey, style)?;
+        write_indexed(alloc, w, progress, file.path, survey, style, lending)?;
     }
     w.flush()
 }
 
-/// Reads all files and writes the report on each, or says why not. How far it has come goes to `progress`, if the style asks
-/// for it.
+/// Reads all files and writes the report on each, or says why not. The deliveries of each are made to an index of its own. How far
+/// it has come goes to `progress`, if the style asks for it.
 pub fn report_files<'a, W: io::Write, E: io::Write>(
     alloc: Global,
     w: &mut W,
     progress: &mut E,
     files: &'a [File<'a>],
     style: Style,
+    lending: Lending,
 ) -> Result<(), ReportError<'a>> {
     let read = read_all(alloc, files)?;
     let surveys = survey_all(alloc, files, read.as_slice())?;
-    write_all(alloc, w, progress, files, surveys.as_slice(), style)?;
+    write_all(
+        alloc,
+        w,
+        progress,
+        files,
+        surveys.as_slice(),
+        style,
+        lending,
+    )?;
     Ok(())
 }

@@ -3,6 +3,7 @@ ghost use Rattle.std.specs.Prelude.{Some};
 ghost use Rattle.reports.specs.Shown.{held};
 ghost use Rattle.reports.specs.Told.{grouped, range_told, item_told, seen_told, seen_line, refused_line, pair, account_line};
 
+use crate::counts::DeliveryCounts;
 use crate::names::{ModuleText, ModulesText, VisibilityText};
 use crate::range::Range;
 use crate::seen::Seen;
@@ -56,19 +57,21 @@ struct RangeTold<'a> {
     of: ModuleId,
 }
 
-/// The account, with the counts of modules and of paths.
+/// The account, with the counts of modules, paths and deliveries.
 #[derive(Clone, Copy, Debug)]
 pub struct AccountTold {
     pub account: Account,
     pub modules: u32,
     pub paths: usize,
+    pub deliveries: DeliveryCounts,
 }
 
 // Two numbers with a blank between them.
 #[derive(Clone, Copy)]
 struct Pair(u64, u64);
 
-/// The account as one line: its items, modules, pairs seen and not seen, refused items, and paths.
+/// The account as one line: its items, modules, pairs seen and not seen, refused items, and paths; then the deliveries that changed a
+/// place, that changed none, and that were refused.
 #[derive(Clone, Copy, Debug)]
 pub struct AccountLine(pub AccountTold);
 
@@ -189,13 +192,22 @@ impl fmt::Display for AccountTold {
         let hidden = self.account.hidden;
         let refused = self.account.refused;
         let paths = self.paths;
+        let DeliveryCounts {
+            changed,
+            unchanged,
+            refused: not_taken,
+        } = self.deliveries;
         write!(
             f,
-            "\naccount\n    items           {items:>8}\n    modules         {modules:>8}\n    pairs seen      {seen:>8}\n"
+            "\naccount\n    items               {items:>8}\n    modules             {modules:>8}\n    pairs seen          {seen:>8}\n"
         )?;
         write!(
             f,
-            "    pairs not seen  {hidden:>8}\n    items refused   {refused:>8}\n    paths           {paths:>8}\n"
+            "    pairs not seen      {hidden:>8}\n    items refused       {refused:>8}\n    paths               {paths:>8}\n"
+        )?;
+        write!(
+            f,
+            "    deliveries made     {changed:>8}\n    changed nothing     {unchanged:>8}\n    deliveries refused  {not_taken:>8}\n"
         )
     }
 }
@@ -211,13 +223,14 @@ impl fmt::Display for Pair {
 }
 
 impl fmt::Display for AccountLine {
-    ghost output = { λ a. Some (account_line a.0.account a.0.modules a.0.paths) };
+    ghost output = { λ a. Some (account_line a.0.account a.0.modules a.0.paths a.0.deliveries) };
 
     fn fmt<W: fmt::Write>(&self, f: &mut fmt::Formatter<W>) -> fmt::Result {
         let account = self.0.account;
         let asked = Pair(account.items, u64::from(self.0.modules));
         let seen = Pair(account.seen, account.hidden);
         let rest = Pair(account.refused, self.0.paths as u64);
-        write!(f, "account {asked} {seen} {rest}\n")
+        let deliveries = self.0.deliveries;
+        write!(f, "account {asked} {seen} {rest} {deliveries}")
     }
 }

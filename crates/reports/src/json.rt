@@ -17,6 +17,7 @@ use path_text::name_list::NameList;
 use paths::show::{kind_word, level_of};
 use serde_json::{Value, json};
 use std::alloc::{AllocError, Global};
+use std::io;
 
 fn module_name(alloc: Global, names: &[&str], of: ModuleId) -> Result<Value, AllocError>
     ensures { IfOk result (λ v. view v ≡ string (module_text (held names.now) of)) }
@@ -164,7 +165,7 @@ fn numbers_of(alloc: Global, path: &ModPath) -> Result<Value, AllocError> {
     Ok(Value::Array(values))
 }
 
-fn name_text(alloc: Global, list: &NameList, name: Name) -> Result<Value, AllocError> {
+pub(crate) fn name_value(alloc: Global, list: &NameList, name: Name) -> Result<Value, AllocError> {
     match list.text(name) {
         Some(line) => Ok(Value::String(String::from_utf8_lossy(alloc, line)?)),
         None => Ok(Value::Null),
@@ -174,7 +175,7 @@ fn name_text(alloc: Global, list: &NameList, name: Name) -> Result<Value, AllocE
 fn names_of(alloc: Global, list: &NameList, path: &ModPath) -> Result<Value, AllocError> {
     let mut values = Vec::new(alloc);
     for name in &path.names {
-        values.push(name_text(alloc, list, *name)?)?;
+        values.push(name_value(alloc, list, *name)?)?;
     }
     Ok(Value::Array(values))
 }
@@ -202,9 +203,12 @@ pub fn path_value(
 
 /// The account of a file.
 pub fn account_value(alloc: Global, told: AccountTold) -> Result<Value, AllocError>
-    ensures { IfOk result (λ v. view v ≡ account_data told.account told.modules told.paths) }
+    ensures { IfOk result (λ v. view v ≡ account_data told.account told.modules told.paths told.deliveries) }
 {
     let paths = told.paths as u64;
+    let changed = told.deliveries.changed as u64;
+    let unchanged = told.deliveries.unchanged as u64;
+    let not_taken = told.deliveries.refused as u64;
     json!(in alloc; {
         "kind": "account",
         "items": told.account.items,
@@ -212,6 +216,15 @@ pub fn account_value(alloc: Global, told: AccountTold) -> Result<Value, AllocErr
         "seen": told.account.seen,
         "hidden": told.account.hidden,
         "refused": told.account.refused,
-        "paths": paths
+        "paths": paths,
+        "changed": changed,
+        "unchanged": unchanged,
+        "refused_deliveries": not_taken
     })
+}
+
+/// A value as a line.
+pub(crate) fn write_value<W: io::Write>(alloc: Global, w: &mut W, value: &Value) -> io::Result<()> {
+    let text = value.to_string(alloc)?;
+    writeln!(w, "{text}")
 }

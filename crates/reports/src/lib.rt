@@ -1,10 +1,21 @@
-// The report on a firmware file: who may see each item, what each path was read as, and the account.
+// Who sees an item, as a range; what holds a place; and the report of a file: for people, in lines of words, as JSON.
 #![tactic(auto)]
 
+pub mod answer_json;
+mod answer_report;
+pub mod answers;
+pub mod counts;
 pub mod files;
+pub mod holders;
+pub mod indexed;
+mod item_report;
 pub mod items;
 pub mod json;
 pub mod names;
+pub mod place_json;
+mod place_report;
+pub mod places;
 pub mod range;
 pub mod report;
 pub mod seen;
+pub mod style;

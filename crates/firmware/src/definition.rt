@@ -1,0 +1,146 @@
+// What a file declares with its kind: the entries that it is, and the statement that has it.
+ghost use Rattle.std.specs.Prelude.{◌≡◌};
+ghost use Rattle.std.specs.Option.{option_map};
+ghost use Rattle.firmware.specs.Kinds.{has_constructor, import_of, seen_by, with_visibility, shaped, entries_of};
+
+use entries::per_ns::{Item, PerNs};
+use entries::visibility::Visibility;
+use hir_def::import::ImportOrExternCrate;
+use hir_def::{
+    AdtId, ConstId, EnumId, EnumVariantId, ExternCrateId, FunctionId, GlobId, ImportId, MacroId,
+    ModuleDefId, StaticId, StructId, TraitId, TypeAliasId, UnionId,
+};
+use item_scope::index_data::CallStyles;
+
+/// How the fields of a struct or a variant are written. Only with a record there is no constructor that is a value.
+#[derive(Clone, Copy, PartialEq, Eq, Debug)]
+pub(crate) enum Shape {
+    Unit,
+    Tuple,
+    Record,
+}
+
+/// The kind of an item.
+#[derive(Clone, Copy, PartialEq, Eq, Debug)]
+pub(crate) enum ItemKind {
+    Function,
+    Const,
+    Static,
+    Struct(Shape),
+    Union,
+    Enum,
+    Trait,
+    TypeAlias,
+    Macro(CallStyles),
+    Variant(Shape),
+}
+
+/// How an import brings what it names.
+#[derive(Clone, Copy, PartialEq, Eq, Debug)]
+pub(crate) enum Bringing {
+    Named,
+    Glob,
+    ExternCrate,
+}
+
+/// A module, an item of a kind or a variant, as its statement has it.
+#[derive(Clone, Copy, Debug)]
+pub struct Definition<'a> {
+    /// The full name of the module or of the enum around it, empty for a crate.
+    pub within: &'a str,
+    pub name: &'a str,
+    /// Lines count from 1.
+    pub line: usize,
+}
+
+impl Shape {
+    pub(crate) fn has_constructor(self) -> bool
+        ensures { result ≡ has_constructor self }
+    {
+        !matches!(self, Shape::Record)
+    }
+}
+
+impl Bringing {
+    /// The import with that number among those of its kind.
+    pub(crate) fn import(self, number: u32) -> ImportOrExternCrate
+        ensures { result ≡ import_of self number }
+    {
+        match self {
+            Bringing::Named => ImportOrExternCrate::Import(ImportId(number)),
+            Bringing::Glob => ImportOrExternCrate::Glob(GlobId(number)),
+            Bringing::ExternCrate => ImportOrExternCrate::ExternCrate(ExternCrateId(number)),
+        }
+    }
+}
+
+// The entry, if there is one, with that visibility.
+fn seen_by<Def: Copy, Import: Copy>(
+    entry: Option<Item<Def, Import>>,
+    vis: Visibility,
+) -> Option<Item<Def, Import>>
+    ensures { result ≡ option_map (seen_by vis) entry }
+{
+    entry.map(|item| Item { vis, ..item })
+}
+
+/// The entries, each with that visibility.
+pub(crate) fn with_visibility(entries: PerNs, vis: Visibility) -> PerNs
+    ensures { result ≡ with_visibility vis entries }
+{
+    PerNs {
+        types: seen_by(entries.types, vis),
+        values: seen_by(entries.values, vis),
+        macros: seen_by(entries.macros, vis),
+    }
+}
+
+// A type, which is a value too where it has a constructor.
+fn shaped(def: ModuleDefId, shape: Shape, vis: Visibility) -> PerNs
+    ensures { result ≡ shaped def shape vis }
+{
+    if shape.has_constructor() {
+        PerNs::both(def, def, vis, None)
+    } else {
+        PerNs::types(def, vis, None)
+    }
+}
+
+impl ItemKind {
+    /// The entries of the item with that number among those of its kind.
+    pub(crate) fn entries(self, number: u32, vis: Visibility) -> PerNs
+        ensures { result ≡ entries_of self number vis }
+    {
+        match self {
+            ItemKind::Function => {
+                PerNs::values(ModuleDefId::FunctionId(FunctionId(number)), vis, None)
+            }
+            ItemKind::Const => PerNs::values(ModuleDefId::ConstId(ConstId(number)), vis, None),
+            ItemKind::Static => PerNs::values(ModuleDefId::StaticId(StaticId(number)), vis, None),
+            ItemKind::Struct(shape) => {
+                let def = ModuleDefId::AdtId(AdtId::StructId(StructId(number)));
+                shaped(def, shape, vis)
+            }
+            ItemKind::Union => {
+                let def = ModuleDefId::AdtId(AdtId::UnionId(UnionId(number)));
+                PerNs::types(def, vis, None)
+            }
+            ItemKind::Enum => {
+                let def = ModuleDefId::AdtId(AdtId::EnumId(EnumId(number)));
+                PerNs::types(def, vis, None)
+            }
+            ItemKind::Trait => PerNs::types(ModuleDefId::TraitId(TraitId(number)), vis, None),
+            ItemKind::TypeAlias => {
+                PerNs::types(ModuleDefId::TypeAliasId(TypeAliasId(number)), vis, None)
+            }
+            ItemKind::Macro(_) => PerNs::macros(MacroId(number), vis, None),
+            ItemKind::Variant(shape) => {
+                shaped(
+                    ModuleDefId::EnumVariantId(EnumVariantId(number)),
+                    shape,
+                    vis,
+                )
+            }
+        }
+    }
+}

@@ -1,0 +1,250 @@
+// What the statements of items, macros, imports and preludes add to a file's tables and deliveries.
+use crate::clauses::Site;
+use crate::complaint::Complaint;
+use crate::definition::{Bringing, Definition, ItemKind, Shape, with_visibility};
+use crate::names::{row_number, split, text_of};
+use crate::reader::Firmware;
+use crate::trouble::Trouble;
+use entries::per_ns::PerNs;
+use entries::visibility::Visibility;
+use hir_def::fault::Failure;
+use hir_def::{AdtId, CrateId, EnumId, EnumVariantId, MacroId, ModuleDefId, ModuleId};
+use index_tables::keys::{CrateName, EnumName, MapName, ModuleName};
+use item_scope::index_data::{CallStyles, DefMapId, EnumVariant, ExternPrelude, MacroUse};
+use source_text::words::Word;
+
+impl<'a> Firmware<'a> {
+    // What the file declares above with that full name and a kind, a crate too.
+    fn declared_as(&self, word: Word<'a>) -> Result<PerNs, Complaint> {
+        let found = match split(word) {
+            Ok((outer, name)) => self.declared.get(&(outer.text, name.text)).copied(),
+            Err(_) => {
+                let module = self.known(word)?.id;
+                let def = ModuleDefId::ModuleId(module);
+                Some(PerNs::types(def, Visibility::Public, None))
+            }
+        };
+        found.ok_or(Complaint::at(
+            word,
+            "nothing of this name and a kind is declared above",
+            "the full name of a module, an item of a kind or a variant declared above",
+        ))
+    }
+
+    fn macro_of(&self, word: Word<'a>) -> Result<MacroId, Complaint> {
+        match self.declared_as(word)?.macros {
+            Some(item) => Ok(item.def),
+            None => Err(Complaint::at(
+                word,
+                "this is no macro",
+                "the full name of a macro declared above",
+            )),
+        }
+    }
+
+    fn enum_of(&self, word: Word<'a>) -> Result<(EnumId, Visibility), Complaint> {
+        const ENUM: &str = "the full name of an enum declared above";
+        match self.declared_as(word)?.types {
+            Some(item) => match item.def {
+                ModuleDefId::AdtId(AdtId::EnumId(id)) => Ok((id, item.vis)),
+                _ => Err(Complaint::at(word, "this is no enum", ENUM)),
+            },
+            None => Err(Complaint::at(word, "this is no enum", ENUM)),
+        }
+    }
+
+    fn crate_of(&self, word: Word<'a>) -> Result<(CrateId, ModuleId), Complaint> {
+        let known = self.known(word)?;
+        match known.root_of {
+            Some(DefMapId::Crate(krate)) => Ok((krate, known.id)),
+            _ => Err(Complaint::at(
+                word,
+                "this is no crate",
+                "the name of a crate declared above",
+            )),
+        }
+    }
+
+    fn map_of(&self, word: Word<'a>) -> Result<DefMapId, Complaint> {
+        self.known(word)?.root_of.ok_or(Complaint::at(
+            word,
+            "this is no crate and no block",
+            "the full name of a crate or a block declared above",
+        ))
+    }
+
+    // The number of the definition that is told next, of that kind.
+    fn define(
+        &mut self,
+        kind: ItemKind,
+        name: Word<'a>,
+        within: Word<'a>,
+    ) -> Result<u32, Failure<Trouble>> {
+        let definition = Definition {
+            within: text_of(within)?,
+            name: text_of(name)?,
+            line: name.line,
+        };
+        let told = self.definitions.of_kind(kind);
+        let number = row_number(name, told.len())?;
+        told.push(definition)?;
+        if let ItemKind::Macro(styles) = kind {
+            self.tables.styles.push(styles)?;
+        }
+        Ok(number)
+    }
+
+    /// An item of a kind: it is delivered to its own module.
+    pub(crate) fn add_definition(
+        &mut self,
+        kind: ItemKind,
+        site: Site<'a>,
+    ) -> Result<(), Failure<Trouble>> {
+        let (at, vis) = self.add_item(site)?;
+        let number = self.define(kind, site.name, site.module)?;
+        let entries = kind.entries(number, vis);
+        self.declare(site.module.text, site.name.text, entries)?;
+        self.deliver(at.id, site.name, site.module, entries, None)
+    }
+
+    /// A variant of an enum, which is delivered nowhere: it is as visible as the enum.
+    pub(crate) fn add_variant(
+        &mut self,
+        word: Word<'a>,
+        shape: Shape,
+    ) -> Result<(), Failure<Trouble>> {
+        let (outer, name) = split(word)?;
+        let (_, number) = self.list_name(name)?;
+        let (of, vis) = self.enum_of(outer)?;
+        let kind = ItemKind::Variant(shape);
+        let variant = self.define(kind, name, outer)?;
+        let row = EnumVariant {
+            variant: EnumVariantId(variant),
+            has_constructor: shape.has_constructor(),
+        };
+        let key = EnumName { of, name: number };
+        self.tables.variants.push(key, row, word)?;
+        self.declare(outer.text, name.text, kind.entries(variant, vis))
+    }
+
+    /// A `macro_rules!` macro, which is called by its name alone: it is delivered nowhere.
+    pub(crate) fn add_legacy(
+        &mut self,
+        name: Word<'a>,
+        module: Word<'a>,
+    ) -> Result<(), Failure<Trouble>> {
+        let at = self.known(module)?.id;
+        let (_, number) = self.list_name(name)?;
+        let styles = CallStyles {
+            fn_like: true,
+            attr: false,
+            derive: false,
+        };
+        let def = MacroId(self.define(ItemKind::Macro(styles), name, module)?);
+        self.tables
+            .legacy
+            .push(ModuleName { at, name: number }, def, name)?;
+        let entries = PerNs::macros(def, Visibility::Public, None);
+        self.declare(module.text, name.text, entries)
+    }
+
+    /// A name by which a macro declared above is called in one more module.
+    pub(crate) fn add_legacy_of(
+        &mut self,
+        name: Word<'a>,
+        module: Word<'a>,
+        meant: Word<'a>,
+    ) -> Result<(), Failure<Trouble>> {
+        let at = self.known(module)?.id;
+        let (_, number) = self.list_name(name)?;
+        let def = self.macro_of(meant)?;
+        Ok(
+            self.tables
+                .legacy
+                .push(ModuleName { at, name: number }, def, name)?,
+        )
+    }
+
+    // What an import of that kind brings by a full name.
+    fn imported(&self, bringing: Bringing, full: Word<'a>) -> Result<PerNs, Complaint> {
+        match bringing {
+            Bringing::ExternCrate => {
+                let (_, root) = self.crate_of(full)?;
+                let def = ModuleDefId::ModuleId(root);
+                Ok(PerNs::types(def, Visibility::Public, None))
+            }
+            _ => self.declared_as(full),
+        }
+    }
+
+    /// An import brings what is declared above with a full name, as visible as the import is.
+    pub(crate) fn add_use(
+        &mut self,
+        bringing: Bringing,
+        full: Word<'a>,
+        site: Site<'a>,
+    ) -> Result<(), Failure<Trouble>> {
+        let at = self.known(site.module)?;
+        let vis = self.visibility(at, site.vis)?;
+        let entries = with_visibility(self.imported(bringing, full)?, vis);
+        let lines = self.definitions.of_imports(bringing);
+        let import = bringing.import(row_number(full, lines.len())?);
+        lines.push(full.line)?;
+        self.deliver(at.id, site.name, site.module, entries, Some(import))
+    }
+
+    pub(crate) fn add_extern_prelude(
+        &mut self,
+        name: Word<'a>,
+        krate: Word<'a>,
+        meant: Word<'a>,
+    ) -> Result<(), Failure<Trouble>> {
+        let (_, number) = self.list_name(name)?;
+        let (of, _) = self.crate_of(krate)?;
+        let (_, module) = self.crate_of(meant)?;
+        Ok(
+            self.tables.extern_prelude.push(
+                CrateName {
+                    krate: of,
+                    name: number,
+                },
+                ExternPrelude {
+                    module,
+                    extern_crate: None,
+                },
+                name,
+            )?,
+        )
+    }
+
+    pub(crate) fn add_macro_use(
+        &mut self,
+        name: Word<'a>,
+        map: Word<'a>,
+        meant: Word<'a>,
+    ) -> Result<(), Failure<Trouble>> {
+        let (_, number) = self.list_name(name)?;
+        let map = self.map_of(map)?;
+        let def = self.macro_of(meant)?;
+        Ok(
+            self.tables.macro_use.push(
+                MapName { map, name: number },
+                MacroUse {
+                    def,
+                    extern_crate: None,
+                },
+                name,
+            )?,
+        )
+    }
+
+    pub(crate) fn add_prelude(
+        &mut self,
+        module: Word<'a>,
+        map: Word<'a>,
+    ) -> Result<(), Failure<Trouble>> {
+        let of = self.map_of(map)?;
+        let prelude = self.known(module)?.id;
+        Ok(self.tables.preludes.push(of, prelude, module)?)
+    }
+}

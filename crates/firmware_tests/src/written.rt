@@ -1,0 +1,73 @@
+// What is written of files, in each form.
+use reports::files::{File, ReportError, report_files};
+use reports::indexed::{Lending, Make};
+use reports::style::{Form, Style};
+use std::alloc::Global;
+use std::process::Abort;
+use std::test::Fail;
+
+pub(crate) const FEW: Style = Style {
+    form: Form::Text,
+    all: false,
+    progress: false,
+};
+
+// As many rows as the deliveries may need.
+pub(crate) const TABLE: Lending = Lending {
+    make: Make::Table,
+    rows: usize::MAX,
+};
+
+pub(crate) fn styled(form: Form) -> Style {
+    Style {
+        form,
+        all: false,
+        progress: false,
+    }
+}
+
+// What is written of files, or of what is wrong with them, and whether that is the report.
+pub(crate) fn written(
+    alloc: Global,
+    texts: &[(&'static str, &[u8])],
+    style: Style,
+    lending: Lending,
+) -> Result<(String, bool), Fail> {
+    let mut files = Vec::new(alloc);
+    for (path, text) in texts {
+        files.push(File {
+            path: *path,
+            text: Vec::from_slice(alloc, *text)?,
+        })?;
+    }
+    let mut out = Vec::new(alloc);
+    let mut progress = Vec::new(alloc);
+    let files = files.as_slice();
+    match report_files(alloc, &mut out, &mut progress, files, style, lending) {
+        Ok(()) => Ok((String::from_utf8_lossy(alloc, out.as_slice())?, true)),
+        Err(ReportError::Refused(located)) => Ok((format!(in alloc; "{located}")?, false)),
+        Err(_) => Err(Fail::from("out of memory")),
+    }
+}
+
+// What is written for a text, and whether that is the report.
+pub(crate) fn says(
+    rt: &(impl Abort + Alloc<A = Global>),
+    text: &[u8],
+    form: Form,
+    want: &str,
+    is_report: bool,
+) -> Result<(), Fail> {
+    let (out, reported) = written(rt.alloc(), &[("f.feq", text)], styled(form), TABLE)?;
+    assert!(rt; reported == is_report);
+    assert_eq!(rt; out.as_str(), want);
+    Ok(())
+}
+
+pub(crate) fn complains(
+    rt: &(impl Abort + Alloc<A = Global>),
+    text: &[u8],
+    want: &str,
+) -> Result<(), Fail> {
+    says(rt, text, Form::Text, want, false)
+}

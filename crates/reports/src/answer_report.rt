@@ -1,0 +1,122 @@
+// Writes what a path stands for where it is asked.
+use crate::answer_json::{answer_value, refused_path_value};
+use crate::answers::{AnswerLine, AnswerTold, EntriesWords, QuestionTold};
+use crate::holders::entry_holder;
+use crate::json::write_value;
+use crate::places::HolderTold;
+use crate::style::Form;
+use firmware::survey::Survey;
+use firmware::trouble::FaultTold;
+use hir_def::Namespace;
+use hir_def::fault::{Fault, PathFault};
+use item_scope::index::Index;
+use path_resolution::answer::ResolvePathResult;
+use path_resolution::path_resolution::resolve_path_fp_with_macro;
+use path_resolution::question::Question;
+use path_text::mod_path::ModPath;
+use std::alloc::Global;
+use std::io;
+
+const NAMESPACES: [Namespace; 3] = [Namespace::Types, Namespace::Values, Namespace::Macros];
+
+// For people: who asks, the entry of each namespace, and what else is answered.
+fn write_told<W: io::Write>(
+    w: &mut W,
+    survey: &Survey,
+    path: &ModPath,
+    question: Question,
+    answer: ResolvePathResult,
+) -> io::Result<()> {
+    let names = survey.firmware.names.as_slice();
+    let asked = QuestionTold { names, question };
+    write!(w, "    asked from {asked}\n")?;
+    for namespace in NAMESPACES {
+        let entries = &answer.resolved_def;
+        if let Some(holder) = entry_holder(&survey.firmware.definitions, entries, namespace) {
+            let told = HolderTold {
+                names,
+                namespace,
+                holder,
+            };
+            write!(w, "{told}")?;
+        }
+    }
+    let told = AnswerTold {
+        list: survey.list,
+        path: path.names.as_slice(),
+        answer,
+    };
+    write!(w, "{told}")
+}
+
+fn write_line<W: io::Write>(
+    w: &mut W,
+    survey: &Survey,
+    path: &ModPath,
+    question: Question,
+    answer: ResolvePathResult,
+) -> io::Result<()> {
+    let definitions = &survey.firmware.definitions;
+    let entries = &answer.resolved_def;
+    let line = AnswerLine {
+        names: survey.firmware.names.as_slice(),
+        question,
+        told: AnswerTold {
+            list: survey.list,
+            path: path.names.as_slice(),
+            answer,
+        },
+        entries: EntriesWords {
+            types: entry_holder(definitions, entries, Namespace::Types),
+            values: entry_holder(definitions, entries, Namespace::Values),
+            macros: entry_holder(definitions, entries, Namespace::Macros),
+        },
+    };
+    write!(w, "{line}\n")
+}
+
+fn write_refused<W: io::Write>(
+    alloc: Global,
+    w: &mut W,
+    fault: PathFault,
+    form: Form,
+) -> io::Result<()> {
+    let fault = Fault::Path(fault);
+    match form {
+        Form::Text => {
+            let told = FaultTold(fault);
+            write!(w, "    refused by {told}\n")
+        }
+        Form::Lines => {
+            let code = fault.code();
+            write!(w, "refused-path {code}\n")
+        }
+        Form::Json => {
+            let value = refused_path_value(alloc, fault)?;
+            write_value(alloc, w, &value)
+        }
+    }
+}
+
+/// Asks the path of the index, and writes the answer or why there is none.
+pub(crate) fn write_answer<I: Index, W: io::Write>(
+    alloc: Global,
+    w: &mut W,
+    survey: &Survey,
+    index: &I,
+    path: &ModPath,
+    question: Question,
+    form: Form,
+) -> io::Result<()> {
+    match resolve_path_fp_with_macro(index, question, path) {
+        Err(fault) => write_refused(alloc, w, fault, form),
+        Ok(answer) => match form {
+            Form::Text => write_told(w, survey, path, question, answer),
+            Form::Lines => write_line(w, survey, path, question, answer),
+            Form::Json => {
+                let value = answer_value(alloc, survey, path, question, answer)?;
+                write_value(alloc, w, &value)
+            }
+        },
+    }
+}

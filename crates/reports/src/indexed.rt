@@ -1,0 +1,67 @@
+// The index to which the deliveries of a file are made: its make, and the rows that it is lent.
+use crate::report::write_report;
+use crate::style::Style;
+use firmware::survey::{Hashers, Survey, tables_of};
+use hir_def::fault::{Failure, Fault};
+use indexes::ledger_index::{FREE_LEDGER_ROW, LedgerIndex};
+use indexes::table_index::{FREE_PLACE_ROW, TableIndex};
+use std::alloc::Global;
+use std::io;
+
+#[derive(Clone, Copy, PartialEq, Eq, Debug)]
+pub enum Make {
+    Table,
+    Ledger,
+}
+
+/// Which make of an index, and how many rows it is lent at most.
+#[derive(Clone, Copy, Debug)]
+pub struct Lending {
+    pub make: Make,
+    pub rows: usize,
+}
+
+impl Lending {
+    // Rows for all deliveries, three for each, or fewer.
+    fn rows_for(self, survey: &Survey) -> usize {
+        self.rows
+            .min(survey.firmware.deliveries.len().saturating_mul(3))
+    }
+}
+
+// The tables of a file that is taken are loaded once already, so nothing is refused here.
+fn loaded(answer: Result<(), Failure<Fault>>) -> io::Result<()> {
+    match answer {
+        Ok(()) => Ok(()),
+        Err(Failure::Refused(_)) => Err(io::Error::from(io::ErrorKind::InvalidData)),
+        Err(Failure::Memory(e)) => Err(io::Error::from(e)),
+    }
+}
+
+/// Makes the deliveries of a file to an index of its own, and writes the report.
+pub fn write_indexed<W: io::Write, E: io::Write>(
+    alloc: Global,
+    w: &mut W,
+    progress: &mut E,
+    path: &str,
+    survey: &Survey,
+    style: Style,
+    lending: Lending,
+) -> io::Result<()> {
+    let tables = tables_of(survey.firmware);
+    let count = lending.rows_for(survey);
+    match lending.make {
+        Make::Table => {
+            let mut rows = vec![in alloc; FREE_PLACE_ROW; count]?;
+            let mut index = TableIndex::new(alloc, Hashers::new(), rows.as_mut_slice())?;
+            loaded(index.load(alloc, tables))?;
+            write_report(alloc, w, progress, path, survey, &mut index, style)
+        }
+        Make::Ledger => {
+            let mut rows = vec![in alloc; FREE_LEDGER_ROW; count]?;
+            let mut index = LedgerIndex::new(alloc, Hashers::new(), rows.as_mut_slice())?;
+            loaded(index.load(alloc, tables))?;
+            write_report(alloc, w, progress, path, survey, &mut index, style)
+        }
+    }
+}

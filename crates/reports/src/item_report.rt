@@ -1,0 +1,159 @@
+// Writes who may see each item.
+use crate::items::{ItemTold, RefusedLine, SeenLine, SeenTold};
+use crate::json::{item_value, refused_value, write_value};
+use crate::seen::Seen;
+use crate::style::{FEW, Form, Style};
+use entries::account::Account;
+use entries::visibility::Visibility;
+use firmware::reader::Declared;
+use firmware::survey::Survey;
+use firmware::trouble::FaultTold;
+use hir_def::ModuleId;
+use hir_def::fault::{Failure, Fault, TreeFault};
+use nameres::Tree;
+use std::alloc::Global;
+use std::collections::HashMap;
+use std::collections::hash_map::Entry;
+use std::hash::{BuildHasherDefault, FoldHasher};
+use std::io;
+
+// Who sees what has each visibility that came up so far.
+#[derive(Drop)]
+struct Sights {
+    most: usize,
+    seen: HashMap<Visibility, Seen, BuildHasherDefault<FoldHasher>>,
+}
+
+impl Sights {
+    fn of<T: Tree>(
+        &mut self,
+        alloc: Global,
+        tree: &T,
+        vis: Visibility,
+    ) -> Result<&Seen, Failure<TreeFault>> {
+        match self.seen.entry(vis)? {
+            Entry::Occupied(known) => Ok(known.into_mut()),
+            Entry::Vacant(place) => Ok(place.insert(Seen::of(alloc, tree, vis, self.most)?)),
+        }
+    }
+}
+
+fn write_seen<'a, W: io::Write>(
+    alloc: Global,
+    w: &mut W,
+    names: &'a [&'a str],
+    modules: u32,
+    item: Declared<'a>,
+    seen: &'a Seen,
+    of: ModuleId,
+    style: Style,
+) -> io::Result<()> {
+    match style.form {
+        Form::Text => {
+            let item = ItemTold { names, item };
+            let seen = SeenTold {
+                names,
+                modules,
+                seen,
+                of,
+            };
+            write!(w, "{item}\n{seen}")
+        }
+        Form::Lines => {
+            let line = SeenLine { names, item, seen };
+            write!(w, "{line}\n")
+        }
+        Form::Json => {
+            let value = item_value(alloc, names, item, seen, of, style.all)?;
+            write_value(alloc, w, &value)
+        }
+    }
+}
+
+fn write_refused<W: io::Write>(
+    alloc: Global,
+    w: &mut W,
+    survey: &Survey,
+    item: Declared,
+    fault: Fault,
+    form: Form,
+) -> io::Result<()> {
+    let names = survey.firmware.names.as_slice();
+    match form {
+        Form::Text => {
+            let item = ItemTold { names, item };
+            let fault = FaultTold(fault);
+            write!(w, "{item}\n    refused by {fault}\n")
+        }
+        Form::Lines => {
+            let line = RefusedLine {
+                item,
+                code: fault.code(),
+            };
+            write!(w, "{line}\n")
+        }
+        Form::Json => {
+            let value = refused_value(alloc, names, item, fault)?;
+            write_value(alloc, w, &value)
+        }
+    }
+}
+
+// Who may see an item, or why that is not told; the account counts it.
+fn write_item<W: io::Write>(
+    alloc: Global,
+    w: &mut W,
+    survey: &Survey,
+    item: Declared,
+    answer: Result<&Seen, Failure<TreeFault>>,
+    account: &mut Account,
+    style: Style,
+) -> io::Result<()> {
+    match answer {
+        Ok(seen) => {
+            let names = survey.firmware.names.as_slice();
+            let modules = survey.tables.modules();
+            let of = seen.range.named_by(&survey.tables);
+            account.add_item(seen.count as u64, u64::from(modules));
+            write_seen(alloc, w, names, modules, item, seen, of, style)
+        }
+        Err(Failure::Refused(fault)) => {
+            account.add_refused();
+            write_refused(alloc, w, survey, item, Fault::Tree(fault), style.form)
+        }
+        Err(Failure::Memory(e)) => Err(io::Error::from(e)),
+    }
+}
+
+/// Who may see each item, and the counts of it. A list that may be long is not kept.
+pub(crate) fn write_items<W: io::Write, E: io::Write>(
+    alloc: Global,
+    w: &mut W,
+    progress: &mut E,
+    path: &str,
+    survey: &Survey,
+    style: Style,
+) -> io::Result<Account> {
+    let most = style.most();
+    let mut sights = Sights {
+        most,
+        seen: HashMap::new(alloc),
+    };
+    let mut account = Account::new();
+    for (done, item) in survey.firmware.items.iter().enumerate() {
+        if style.progress && done % 10_000 == 0 {
+            let all = survey.firmware.items.len();
+            writeln!(progress, "{path}: {done} of {all} items")?;
+        }
+        if most > FEW {
+            match Seen::of(alloc, &survey.tables, item.vis, most) {
+                Ok(seen) => write_item(alloc, w, survey, *item, Ok(&seen), &mut account, style)?,
+                Err(e) => write_item(alloc, w, survey, *item, Err(e), &mut account, style)?,
+            }
+        } else {
+            let answer = sights.of(alloc, &survey.tables, item.vis);
+            write_item(alloc, w, survey, *item, answer, &mut account, style)?;
+        }
+    }
+    Ok(account)
+}
