@@ -2,7 +2,7 @@
 use hir_def::{CrateId, Name};
 
 /// How a path begins.
-#[derive(Clone, Copy, PartialEq, Eq, Hash, Debug)]
+#[derive(Clone, Copy, PartialEq, Eq, Debug)]
 pub enum PathKind {
     Plain,
     /// `self` is level 0, `super` 1, and so on.

@@ -9,7 +9,7 @@ use hir_def::Name;
 use hir_def::builtin_type::BuiltinType;
 use hir_def::fault::{Failure, TextFault};
 use std::alloc::{AllocError, Global};
-use std::collections::HashMap;
+use std::collections::BTreeMap;
 use std::marker::Model;
 
 const BUILTIN_NAMES: usize = 19;
@@ -19,7 +19,7 @@ const BUILTIN_NAMES: usize = 19;
 pub struct NameList<'a> {
     lines: Vec<&'a [u8]>,
     // Each line's number; of equal lines, that of the first.
-    numbers: HashMap<&'a [u8], Name>,
+    numbers: BTreeMap<&'a [u8], Name>,
 }
 
 impl<'a> Model for NameList<'a> {
@@ -84,7 +84,7 @@ fn first_bad_line(bytes: &[u8], names: u32) -> Option<usize>
 
 // Gives a line its number, unless an equal line has one.
 fn number_line<'a>(
-    numbers: &mut HashMap<&'a [u8], Name>,
+    numbers: &mut BTreeMap<&'a [u8], Name>,
     line: &'a [u8],
     number: Name,
 ) -> Result<(), AllocError>
@@ -135,7 +135,7 @@ impl<'a> NameList<'a> {
     {
         NameList {
             lines: Vec::new(alloc),
-            numbers: HashMap::new(alloc),
+            numbers: BTreeMap::new(alloc),
         }
     }
 
@@ -144,12 +144,15 @@ impl<'a> NameList<'a> {
         ensures ok { OnOk result (self.new ≡ self.old ++ line.now ∷ []) }
         ensures err { OnErr result (self.new ≡ self.old) }
     {
-        let Ok(number) = u32::try_from(self.lines.len()) else {
+        if self.lines.len() > u32::MAX as usize {
             return Err(AllocError);
-        };
-        self.lines.reserve(1)?;
-        number_line(&mut self.numbers, line, Name(number))?;
+        }
+        let number = Name(self.lines.len() as u32);
         self.lines.push(line)?;
+        if let Err(fault) = number_line(&mut self.numbers, line, number) {
+            self.lines.pop();
+            return Err(fault);
+        }
         Ok(())
     }
 
@@ -157,8 +160,16 @@ impl<'a> NameList<'a> {
     pub fn built_in(alloc: Global) -> Result<NameList<'a>, AllocError>
         ensures { IfOk result (λ l. l ≡ builtin_lines 19) }
     {
+        NameList::first_built_in(alloc, BUILTIN_NAMES)
+    }
+
+    // So many of them. Their number is a parameter, since the checker writes out each line that a numeral counts.
+    fn first_built_in(alloc: Global, names: usize) -> Result<NameList<'a>, AllocError>
+        requires { names < 20 }
+        ensures { IfOk result (λ l. l ≡ builtin_lines names) }
+    {
         let mut list = NameList::empty(alloc);
-        for number in 0..BUILTIN_NAMES {
+        for number in 0..names {
             list.push(built_in_line(number))?;
         }
         Ok(list)
