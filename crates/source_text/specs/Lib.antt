@@ -1,2 +1,4 @@
+pub mod Cells
+pub mod Excerpts
 pub mod Numbers
 pub mod Words

@@ -1,5 +1,6 @@
 // What a line shows on a terminal, cell by cell: nothing of it reaches the terminal that would move the cursor.
-ghost use Rattle.std.specs.Prelude.{◌<◌, ◌≤◌, length, IfSome};
+ghost use Rattle.std.specs.Prelude.{◌≡◌, ◌<◌, ◌≤◌, length, IfSome, Some, encode_utf8_all};
+ghost use Rattle.source_text.specs.Cells.{cell_chars, first_cell};
 
 use bstr::decode_utf8;
 use std::fmt;
@@ -13,18 +14,10 @@ pub(crate) enum Cell {
     Byte(u8),
 }
 
-impl Cell {
-    /// How many columns it takes. A tab takes as many as the terminal has it.
-    pub(crate) fn width(self) -> usize {
-        match self {
-            Cell::Tab => 0,
-            Cell::Char(c) => c.width().unwrap_or(0),
-            Cell::Byte(_) => 4,
-        }
-    }
-}
-
+#[tactic(auto, using(crate::proofs::Cells::escape))]
 impl fmt::Display for Cell {
+    ghost output = { λ c. Some (encode_utf8_all (cell_chars c)) };
+
     fn fmt<W: fmt::Write>(&self, f: &mut fmt::Formatter<W>) -> fmt::Result {
         match *self {
             Cell::Tab => f.write_str("\t"),
@@ -35,9 +28,10 @@ impl fmt::Display for Cell {
 }
 
 /// The first cell of a text and how many bytes it takes.
-#[tactic(auto, using(crate::proofs::Cells::size_bounds))]
+#[tactic(auto, using(crate::proofs::Cells::size_bounds), unfolding(unicode_width::specs::Width::char_width))]
 pub(crate) fn first_cell(text: &[u8]) -> Option<(Cell, usize)>
-    ensures { IfSome result (λ c. (0 < c.1) × (c.1 ≤ length text.now)) }
+    ensures value { result ≡ first_cell text.now }
+    ensures bounds { IfSome result (λ c. (0 < c.1) × (c.1 ≤ length text.now)) }
 {
     let first = *text.first()?;
     if first == b'\t' {
