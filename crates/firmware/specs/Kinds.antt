@@ -26,18 +26,31 @@ has_constructor shape.Record = false
 abbrev pub shaped : ModuleDefId → Shape → Visibility → PerNs
 shaped d s vis = if has_constructor s then of_both d d vis None else of_types d vis None
 
--- the entries of the item with that number among those of its kind
+-- what a name of the item with that number among those of its kind stands for
+abbrev pub def_of : ItemKind → ℕ → ModuleDefId
+def_of kind.Function n = def.FunctionId (record { 0 = n })
+def_of kind.Const n = def.ConstId (record { 0 = n })
+def_of kind.Static n = def.StaticId (record { 0 = n })
+def_of (kind.Struct s) n = def.AdtId (adt.StructId (record { 0 = n }))
+def_of kind.Union n = def.AdtId (adt.UnionId (record { 0 = n }))
+def_of kind.Enum n = def.AdtId (adt.EnumId (record { 0 = n }))
+def_of kind.Trait n = def.TraitId (record { 0 = n })
+def_of kind.TypeAlias n = def.TypeAliasId (record { 0 = n })
+def_of (kind.Macro styles) n = def.MacroId (record { 0 = n })
+def_of (kind.Variant s) n = def.EnumVariantId (record { 0 = n })
+
+-- the entries of that item
 abbrev pub entries_of : ItemKind → ℕ → Visibility → PerNs
-entries_of kind.Function n vis = of_values (def.FunctionId (record { 0 = n })) vis None
-entries_of kind.Const n vis = of_values (def.ConstId (record { 0 = n })) vis None
-entries_of kind.Static n vis = of_values (def.StaticId (record { 0 = n })) vis None
-entries_of (kind.Struct s) n vis = shaped (def.AdtId (adt.StructId (record { 0 = n }))) s vis
-entries_of kind.Union n vis = of_types (def.AdtId (adt.UnionId (record { 0 = n }))) vis None
-entries_of kind.Enum n vis = of_types (def.AdtId (adt.EnumId (record { 0 = n }))) vis None
-entries_of kind.Trait n vis = of_types (def.TraitId (record { 0 = n })) vis None
-entries_of kind.TypeAlias n vis = of_types (def.TypeAliasId (record { 0 = n })) vis None
+entries_of kind.Function n vis = of_values (def_of kind.Function n) vis None
+entries_of kind.Const n vis = of_values (def_of kind.Const n) vis None
+entries_of kind.Static n vis = of_values (def_of kind.Static n) vis None
+entries_of (kind.Struct s) n vis = shaped (def_of (kind.Struct s) n) s vis
+entries_of kind.Union n vis = of_types (def_of kind.Union n) vis None
+entries_of kind.Enum n vis = of_types (def_of kind.Enum n) vis None
+entries_of kind.Trait n vis = of_types (def_of kind.Trait n) vis None
+entries_of kind.TypeAlias n vis = of_types (def_of kind.TypeAlias n) vis None
 entries_of (kind.Macro styles) n vis = of_macros (record { 0 = n }) vis None
-entries_of (kind.Variant s) n vis = shaped (def.EnumVariantId (record { 0 = n })) s vis
+entries_of (kind.Variant s) n vis = shaped (def_of (kind.Variant s) n) s vis
 
 -- the import with that number among those of its kind
 abbrev pub import_of : Bringing → ℕ → ImportOrExternCrate

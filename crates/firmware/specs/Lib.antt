@@ -1,5 +1,7 @@
 pub mod Definitions
 pub mod Deliveries
 pub mod Kinds
+pub mod Models
 pub mod Paths
+pub mod Piles
 pub mod Surveys

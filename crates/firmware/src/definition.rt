@@ -1,7 +1,7 @@
 // What a file declares with its kind: the entries that it is, and the statement that has it.
 ghost use Rattle.std.specs.Prelude.{◌≡◌};
 ghost use Rattle.std.specs.Option.{option_map};
-ghost use Rattle.firmware.specs.Kinds.{has_constructor, import_of, seen_by, with_visibility, shaped, entries_of};
+ghost use Rattle.firmware.specs.Kinds.{has_constructor, import_of, seen_by, with_visibility, shaped, def_of, entries_of};
 
 use entries::per_ns::{Item, PerNs};
 use entries::visibility::Visibility;
@@ -43,14 +43,27 @@ pub(crate) enum Bringing {
     ExternCrate,
 }
 
-/// A module, an item of a kind or a variant, as its statement has it.
+/// Where what a statement tells stands.
+#[derive(Clone, Copy, PartialEq, Eq, Debug)]
+pub enum Standing {
+    /// It is delivered to the module around it, under its name.
+    Place,
+    /// It is a variant of that enum.
+    Variant(EnumId),
+    /// It is delivered nowhere: a crate, a block's root or a legacy macro.
+    Apart,
+}
+
+/// A module, an item of a kind, a variant or an import, as its statement has it.
 #[derive(Clone, Copy, Debug)]
 pub struct Definition<'a> {
     /// The full name of the module or of the enum around it, empty for a crate.
     pub within: &'a str,
+    /// Of an import the name that it binds.
     pub name: &'a str,
     /// Lines count from 1.
     pub line: usize,
+    pub standing: Standing,
 }
 
 impl Shape {
@@ -107,40 +120,38 @@ fn shaped(def: ModuleDefId, shape: Shape, vis: Visibility) -> PerNs
 }
 
 impl ItemKind {
+    /// What a name of the item with that number among those of its kind stands for.
+    pub(crate) fn def(self, number: u32) -> ModuleDefId
+        ensures { result ≡ def_of self number }
+    {
+        match self {
+            ItemKind::Function => ModuleDefId::FunctionId(FunctionId(number)),
+            ItemKind::Const => ModuleDefId::ConstId(ConstId(number)),
+            ItemKind::Static => ModuleDefId::StaticId(StaticId(number)),
+            ItemKind::Struct(_) => ModuleDefId::AdtId(AdtId::StructId(StructId(number))),
+            ItemKind::Union => ModuleDefId::AdtId(AdtId::UnionId(UnionId(number))),
+            ItemKind::Enum => ModuleDefId::AdtId(AdtId::EnumId(EnumId(number))),
+            ItemKind::Trait => ModuleDefId::TraitId(TraitId(number)),
+            ItemKind::TypeAlias => ModuleDefId::TypeAliasId(TypeAliasId(number)),
+            ItemKind::Macro(_) => ModuleDefId::MacroId(MacroId(number)),
+            ItemKind::Variant(_) => ModuleDefId::EnumVariantId(EnumVariantId(number)),
+        }
+    }
+
     /// The entries of the item with that number among those of its kind.
     pub(crate) fn entries(self, number: u32, vis: Visibility) -> PerNs
         ensures { result ≡ entries_of self number vis }
     {
+        let def = self.def(number);
         match self {
-            ItemKind::Function => {
-                PerNs::values(ModuleDefId::FunctionId(FunctionId(number)), vis, None)
+            ItemKind::Function | ItemKind::Const | ItemKind::Static => {
+                PerNs::values(def, vis, None)
             }
-            ItemKind::Const => PerNs::values(ModuleDefId::ConstId(ConstId(number)), vis, None),
-            ItemKind::Static => PerNs::values(ModuleDefId::StaticId(StaticId(number)), vis, None),
-            ItemKind::Struct(shape) => {
-                let def = ModuleDefId::AdtId(AdtId::StructId(StructId(number)));
-                shaped(def, shape, vis)
-            }
-            ItemKind::Union => {
-                let def = ModuleDefId::AdtId(AdtId::UnionId(UnionId(number)));
+            ItemKind::Struct(shape) | ItemKind::Variant(shape) => shaped(def, shape, vis),
+            ItemKind::Union | ItemKind::Enum | ItemKind::Trait | ItemKind::TypeAlias => {
                 PerNs::types(def, vis, None)
-            }
-            ItemKind::Enum => {
-                let def = ModuleDefId::AdtId(AdtId::EnumId(EnumId(number)));
-                PerNs::types(def, vis, None)
-            }
-            ItemKind::Trait => PerNs::types(ModuleDefId::TraitId(TraitId(number)), vis, None),
-            ItemKind::TypeAlias => {
-                PerNs::types(ModuleDefId::TypeAliasId(TypeAliasId(number)), vis, None)
             }
             ItemKind::Macro(_) => PerNs::macros(MacroId(number), vis, None),
-            ItemKind::Variant(shape) => {
-                shaped(
-                    ModuleDefId::EnumVariantId(EnumVariantId(number)),
-                    shape,
-                    vis,
-                )
-            }
         }
     }
 }

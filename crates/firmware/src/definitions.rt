@@ -1,8 +1,8 @@
 // The statements of a file by the numbers of what they declare, so that a def or an import is told by its name and its line.
-ghost use Rattle.std.specs.Prelude.{◌≡◌};
-ghost use Rattle.firmware.specs.Definitions.{definition_of, line_of};
+ghost use Rattle.std.specs.Prelude.{◌≡◌, slice_get};
+ghost use Rattle.firmware.specs.Definitions.{definition_of, statement_of, line_of, place_of, item_of};
 
-use crate::definition::{Bringing, Definition, ItemKind};
+use crate::definition::{Bringing, Definition, ItemKind, Standing};
 use hir_def::import::ImportOrExternCrate;
 use hir_def::{AdtId, ModuleDefId};
 use std::alloc::Global;
@@ -15,10 +15,19 @@ pub struct Definitions<'a> {
     pub(crate) macros: Vec<Definition<'a>>,
     // Functions, fields, variants and the like have one count.
     pub(crate) others: Vec<Definition<'a>>,
-    // The lines of imports.
-    pub(crate) imports: Vec<usize>,
-    pub(crate) globs: Vec<usize>,
-    pub(crate) extern_crates: Vec<usize>,
+    // The statements of imports, each with the module that imports.
+    pub(crate) imports: Vec<Definition<'a>>,
+    pub(crate) globs: Vec<Definition<'a>>,
+    pub(crate) extern_crates: Vec<Definition<'a>>,
+    // The items of a kind and the legacy macros, in the order of their statements.
+    pub(crate) of_a_kind: Vec<ModuleDefId>,
+}
+
+// The statement of that number among those of its kind.
+fn nth<'a>(statements: &[Definition<'a>], number: u32) -> Option<Definition<'a>>
+    ensures { result ≡ slice_get statements.now number }
+{
+    statements.get(number as usize).copied()
 }
 
 impl<'a> Definitions<'a> {
@@ -31,6 +40,7 @@ impl<'a> Definitions<'a> {
             imports: Vec::new(alloc),
             globs: Vec::new(alloc),
             extern_crates: Vec::new(alloc),
+            of_a_kind: Vec::new(alloc),
         }
     }
 
@@ -43,8 +53,8 @@ impl<'a> Definitions<'a> {
         }
     }
 
-    /// The lines of the imports of a kind.
-    pub(crate) fn of_imports(&mut self, bringing: Bringing) -> &mut Vec<usize> {
+    /// The statements of the imports of a kind.
+    pub(crate) fn of_imports(&mut self, bringing: Bringing) -> &mut Vec<Definition<'a>> {
         match bringing {
             Bringing::Named => &mut self.imports,
             Bringing::Glob => &mut self.globs,
@@ -56,35 +66,73 @@ impl<'a> Definitions<'a> {
     pub fn get(&self, def: ModuleDefId) -> Option<Definition<'a>>
         ensures { result ≡ definition_of self.now def }
     {
-        let (definitions, number) = match def {
-            ModuleDefId::ModuleId(id) => (&self.modules, id.0),
-            ModuleDefId::AdtId(AdtId::EnumId(id)) => (&self.enums, id.0),
-            ModuleDefId::MacroId(id) => (&self.macros, id.0),
-            ModuleDefId::FunctionId(id) => (&self.others, id.0),
-            ModuleDefId::AdtId(AdtId::StructId(id)) => (&self.others, id.0),
-            ModuleDefId::AdtId(AdtId::UnionId(id)) => (&self.others, id.0),
-            ModuleDefId::EnumVariantId(id) => (&self.others, id.0),
-            ModuleDefId::ConstId(id) => (&self.others, id.0),
-            ModuleDefId::StaticId(id) => (&self.others, id.0),
-            ModuleDefId::TraitId(id) => (&self.others, id.0),
-            ModuleDefId::TypeAliasId(id) => (&self.others, id.0),
-            ModuleDefId::BuiltinType(_) => return None,
-        };
-        definitions.get(number as usize).copied()
+        match def {
+            ModuleDefId::ModuleId(id) => nth(&self.modules, id.0),
+            ModuleDefId::AdtId(AdtId::EnumId(id)) => nth(&self.enums, id.0),
+            ModuleDefId::MacroId(id) => nth(&self.macros, id.0),
+            ModuleDefId::FunctionId(id) => nth(&self.others, id.0),
+            ModuleDefId::AdtId(AdtId::StructId(id)) => nth(&self.others, id.0),
+            ModuleDefId::AdtId(AdtId::UnionId(id)) => nth(&self.others, id.0),
+            ModuleDefId::EnumVariantId(id) => nth(&self.others, id.0),
+            ModuleDefId::ConstId(id) => nth(&self.others, id.0),
+            ModuleDefId::StaticId(id) => nth(&self.others, id.0),
+            ModuleDefId::TraitId(id) => nth(&self.others, id.0),
+            ModuleDefId::TypeAliasId(id) => nth(&self.others, id.0),
+            ModuleDefId::BuiltinType(_) => None,
+        }
     }
 
-    /// The line of the statement that brought an entry: the import, or where it has none the definition itself. None where the
-    /// file has no such statement.
+    /// The statement that brought an entry: the import, or where it has none the definition itself. None where the file has no
+    /// such statement.
+    pub fn statement_of(
+        &self,
+        def: ModuleDefId,
+        import: Option<ImportOrExternCrate>,
+    ) -> Option<Definition<'a>>
+        ensures { result ≡ statement_of self.now def import }
+    {
+        match import {
+            Some(ImportOrExternCrate::Import(id)) => nth(&self.imports, id.0),
+            Some(ImportOrExternCrate::Glob(id)) => nth(&self.globs, id.0),
+            Some(ImportOrExternCrate::ExternCrate(id)) => nth(&self.extern_crates, id.0),
+            None => self.get(def),
+        }
+    }
+
+    /// The line of the statement that brought an entry.
     pub fn line_of(&self, def: ModuleDefId, import: Option<ImportOrExternCrate>) -> Option<usize>
         ensures { result ≡ line_of self.now def import }
     {
-        match import {
-            Some(ImportOrExternCrate::Import(id)) => self.imports.get(id.0 as usize).copied(),
-            Some(ImportOrExternCrate::Glob(id)) => self.globs.get(id.0 as usize).copied(),
-            Some(ImportOrExternCrate::ExternCrate(id)) => {
-                self.extern_crates.get(id.0 as usize).copied()
-            }
-            None => self.get(def).map(|definition| definition.line),
+        self.statement_of(def, import)
+            .map(|statement| statement.line)
+    }
+
+    /// The place to which its statement delivered an entry. None for a variant, a legacy macro, a crate or a block's root that no
+    /// import brought, and for a built-in type.
+    pub fn place_of(
+        &self,
+        def: ModuleDefId,
+        import: Option<ImportOrExternCrate>,
+    ) -> Option<Definition<'a>>
+        ensures { result ≡ place_of self.now def import }
+    {
+        let statement = self.statement_of(def, import)?;
+        match statement.standing {
+            Standing::Place => Some(statement),
+            _ => None,
+        }
+    }
+
+    /// The item that an entry is of: a variant's enum, or what the entry stands for itself.
+    pub fn item_of(&self, def: ModuleDefId) -> ModuleDefId
+        ensures { result ≡ item_of self.now def }
+    {
+        match self.get(def) {
+            Some(definition) => match definition.standing {
+                Standing::Variant(of) => ModuleDefId::AdtId(AdtId::EnumId(of)),
+                _ => def,
+            },
+            None => def,
         }
     }
 }

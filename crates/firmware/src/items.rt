@@ -1,7 +1,7 @@
 // What the statements of items, macros, imports and preludes add to a file's tables and deliveries.
 use crate::clauses::Site;
 use crate::complaint::Complaint;
-use crate::definition::{Bringing, Definition, ItemKind, Shape, with_visibility};
+use crate::definition::{Bringing, Definition, ItemKind, Shape, Standing, with_visibility};
 use crate::names::{row_number, split, text_of};
 use crate::reader::Firmware;
 use crate::trouble::Trouble;
@@ -14,23 +14,6 @@ use item_scope::index_data::{CallStyles, DefMapId, EnumVariant, ExternPrelude, M
 use source_text::words::Word;
 
 impl<'a> Firmware<'a> {
-    // What the file declares above with that full name and a kind, a crate too.
-    fn declared_as(&self, word: Word<'a>) -> Result<PerNs, Complaint> {
-        let found = match split(word) {
-            Ok((outer, name)) => self.declared.get(&(outer.text, name.text)).copied(),
-            Err(_) => {
-                let module = self.known(word)?.id;
-                let def = ModuleDefId::ModuleId(module);
-                Some(PerNs::types(def, Visibility::Public, None))
-            }
-        };
-        found.ok_or(Complaint::at(
-            word,
-            "nothing of this name and a kind is declared above",
-            "the full name of a module, an item of a kind or a variant declared above",
-        ))
-    }
-
     fn macro_of(&self, word: Word<'a>) -> Result<MacroId, Complaint> {
         match self.declared_as(word)?.macros {
             Some(item) => Ok(item.def),
@@ -77,6 +60,7 @@ impl<'a> Firmware<'a> {
     fn define(
         &mut self,
         kind: ItemKind,
+        standing: Standing,
         name: Word<'a>,
         within: Word<'a>,
     ) -> Result<u32, Failure<Trouble>> {
@@ -84,12 +68,16 @@ impl<'a> Firmware<'a> {
             within: text_of(within)?,
             name: text_of(name)?,
             line: name.line,
+            standing,
         };
         let told = self.definitions.of_kind(kind);
         let number = row_number(name, told.len())?;
         told.push(definition)?;
         if let ItemKind::Macro(styles) = kind {
             self.tables.styles.push(styles)?;
+        }
+        if !matches!(kind, ItemKind::Variant(_)) {
+            self.definitions.of_a_kind.push(kind.def(number))?;
         }
         Ok(number)
     }
@@ -101,7 +89,7 @@ impl<'a> Firmware<'a> {
         site: Site<'a>,
     ) -> Result<(), Failure<Trouble>> {
         let (at, vis) = self.add_item(site)?;
-        let number = self.define(kind, site.name, site.module)?;
+        let number = self.define(kind, Standing::Place, site.name, site.module)?;
         let entries = kind.entries(number, vis);
         self.declare(site.module.text, site.name.text, entries)?;
         self.deliver(at.id, site.name, site.module, entries, None)
@@ -117,7 +105,7 @@ impl<'a> Firmware<'a> {
         let (_, number) = self.list_name(name)?;
         let (of, vis) = self.enum_of(outer)?;
         let kind = ItemKind::Variant(shape);
-        let variant = self.define(kind, name, outer)?;
+        let variant = self.define(kind, Standing::Variant(of), name, outer)?;
         let row = EnumVariant {
             variant: EnumVariantId(variant),
             has_constructor: shape.has_constructor(),
@@ -140,7 +128,7 @@ impl<'a> Firmware<'a> {
             attr: false,
             derive: false,
         };
-        let def = MacroId(self.define(ItemKind::Macro(styles), name, module)?);
+        let def = MacroId(self.define(ItemKind::Macro(styles), Standing::Apart, name, module)?);
         self.tables
             .legacy
             .push(ModuleName { at, name: number }, def, name)?;
@@ -187,9 +175,15 @@ impl<'a> Firmware<'a> {
         let at = self.known(site.module)?;
         let vis = self.visibility(at, site.vis)?;
         let entries = with_visibility(self.imported(bringing, full)?, vis);
-        let lines = self.definitions.of_imports(bringing);
-        let import = bringing.import(row_number(full, lines.len())?);
-        lines.push(full.line)?;
+        let definition = Definition {
+            within: text_of(site.module)?,
+            name: text_of(site.name)?,
+            line: full.line,
+            standing: Standing::Place,
+        };
+        let told = self.definitions.of_imports(bringing);
+        let import = bringing.import(row_number(full, told.len())?);
+        told.push(definition)?;
         self.deliver(at.id, site.name, site.module, entries, Some(import))
     }
 

@@ -1,7 +1,7 @@
 // What the statements of crates, modules and blocks add to a file's tree.
 use crate::clauses::RawVisibility;
 use crate::complaint::Complaint;
-use crate::definition::Definition;
+use crate::definition::{Definition, Standing};
 use crate::names::{row_number, split, text_of};
 use crate::reader::{Firmware, Known};
 use crate::trouble::Trouble;
@@ -37,6 +37,10 @@ impl<'a> Firmware<'a> {
             within: text_of(within)?,
             name: text_of(name)?,
             line: word.line,
+            standing: match root_of {
+                Some(_) => Standing::Apart,
+                None => Standing::Place,
+            },
         })?;
         let known = Known {
             id,

@@ -1,8 +1,11 @@
 // The paths of a file, read by its name list.
+ghost use Rattle.std.specs.Prelude.{◌≡◌, vec_items, option_map};
+ghost use Rattle.std.specs.List.{slice_get};
 ghost use Rattle.hir_def.specs.Faults.{OnMemory};
 ghost use Rattle.firmware.specs.Paths.{ReadsAll, Tells, TellsAt, WantsAt};
 
 use crate::complaint::Complaint;
+use crate::reader::Firmware;
 use crate::trouble::Trouble;
 use hir_def::fault::{Failure, TextFault};
 use path_text::mod_path::ModPath;
@@ -73,4 +76,14 @@ pub(crate) fn read_paths(
         }
     }
     Ok(paths)
+}
+
+impl<'a> Firmware<'a> {
+    /// The line of the statement of a path, by the path's number among those of the file.
+    pub fn path_line(&self, number: usize) -> Option<usize>
+        ensures { result ≡ option_map (λ w. w.line) (slice_get (vec_items self.now.paths) number) }
+    {
+        let word = self.paths.get(number)?;
+        Some(word.line)
+    }
 }

@@ -1,18 +1,15 @@
-// Reads a firmware file into the tables of an index, the list of its items, and its deliveries.
-use crate::asking::Asking;
-use crate::clauses::{RawVisibility, Site};
-use crate::complaint::Complaint;
+// Reads a firmware file into the tables of an index, the list of its items, its deliveries and its models.
 use crate::definitions::Definitions;
-use crate::names::{name_of, numbered, text_of};
+use crate::models::{Model, below_a_model};
+use crate::pile::Part;
 use crate::statement::Statement;
 use crate::tables::IndexRows;
 use crate::trouble::Trouble;
 use crate::words::StatementWords;
 use entries::per_ns::PerNs;
-use entries::visibility::{Visibility, VisibilityExplicitness};
+use entries::visibility::Visibility;
 use hir_def::fault::Failure;
-use hir_def::import::ImportOrExternCrate;
-use hir_def::{BlockId, CrateId, ModuleId, Name};
+use hir_def::{BlockId, CrateId, ModuleId};
 use item_scope::delivery::Delivery;
 use item_scope::index_data::DefMapId;
 use nameres::tree_rows::{BlockRow, CrateRow, ModuleRow};
@@ -72,13 +69,14 @@ pub struct Firmware<'a> {
     // How many names the list has.
     pub(crate) name_count: u32,
     pub(crate) by_name: BTreeMap<&'a [u8], Known>,
-    // What is declared with a kind, by what stands before the last `::` of its full name and the name after it.
-    pub(crate) declared: BTreeMap<(&'a [u8], &'a [u8]), PerNs>,
+    // What each part declares with a kind, by what stands before the last `::` of its full name and the name after it.
+    pub(crate) declared: BTreeMap<(Part, &'a [u8], &'a [u8]), PerNs>,
+    /// The card models, in the order of their statements.
+    pub models: Vec<Model<'a>>,
+    pub(crate) model_numbers: BTreeMap<&'a [u8], usize>,
 }
 
 const BUILTIN_NAMES: u32 = 19;
-
-const MODULE: &str = "the full name of a module declared above, as in `raid::layout`";
 
 impl<'a> Firmware<'a> {
     fn new(alloc: Global) -> Result<Firmware<'a>, Failure<Trouble>> {
@@ -97,123 +95,16 @@ impl<'a> Firmware<'a> {
             name_count: BUILTIN_NAMES,
             by_name: BTreeMap::new(alloc),
             declared: BTreeMap::new(alloc),
+            models: Vec::new(alloc),
+            model_numbers: BTreeMap::new(alloc),
         })
     }
 
-    // The name of a statement, which the paths of the file may have, and its number.
-    pub(crate) fn list_name(
-        &mut self,
-        word: Word<'a>,
-    ) -> Result<(&'a str, Name), Failure<Trouble>> {
-        let name = name_of(word)?;
-        self.list.add(word.text)?;
-        match self.list.number(word.text) {
-            Some(number) => {
-                self.name_count = self.name_count.max(number.0.saturating_add(1));
-                Ok((name, number))
-            }
-            None => Err(Failure::from(Complaint::at(word, "this is no name", "a name"))),
+    // Adds what a statement tells, which begins with that word.
+    fn add(&mut self, verb: Word<'a>, statement: Statement<'a>) -> Result<(), Failure<Trouble>> {
+        if !self.models.is_empty() && !statement.stands_below_models() {
+            return Err(Failure::from(below_a_model(verb)));
         }
-    }
-
-    pub(crate) fn known(&self, word: Word<'a>) -> Result<Known, Complaint> {
-        match self.by_name.get(word.text) {
-            Some(known) => Ok(*known),
-            None => Err(Complaint::at(word, "no module of this name is declared above", MODULE)),
-        }
-    }
-
-    // What is declared first with a full name holds it, in each namespace.
-    pub(crate) fn declare(
-        &mut self,
-        within: &'a [u8],
-        name: &'a [u8],
-        entries: PerNs,
-    ) -> Result<(), Failure<Trouble>> {
-        let known = match self.declared.get(&(within, name)) {
-            Some(known) => known.or(entries),
-            None => entries,
-        };
-        self.declared.insert((within, name), known)?;
-        Ok(())
-    }
-
-    pub(crate) fn deliver(
-        &mut self,
-        receiver: ModuleId,
-        word: Word<'a>,
-        module: Word<'a>,
-        entries: PerNs,
-        import: Option<ImportOrExternCrate>,
-    ) -> Result<(), Failure<Trouble>> {
-        let (name, number) = self.list_name(word)?;
-        self.deliveries.push(DeliveryStatement {
-            delivery: Delivery {
-                receiver,
-                name: number,
-                entries,
-                import,
-            },
-            name,
-            module: text_of(module)?,
-            line: word.line,
-        })?;
-        Ok(())
-    }
-
-    pub(crate) fn visibility(
-        &self,
-        at: Known,
-        raw: RawVisibility<'a>,
-    ) -> Result<Visibility, Complaint> {
-        match raw {
-            RawVisibility::Public => Ok(Visibility::Public),
-            RawVisibility::Crate => Ok(Visibility::PubCrate(at.krate)),
-            RawVisibility::Private => Ok(Visibility::Module(
-                at.id,
-                VisibilityExplicitness::Implicit,
-            )),
-            RawVisibility::In(word) => {
-                let module = match numbered(word.text) {
-                    Some(row) => ModuleId(row),
-                    None => self.known(word)?.id,
-                };
-                Ok(Visibility::Module(module, VisibilityExplicitness::Explicit))
-            }
-        }
-    }
-
-    // An item, and the module that it stands in.
-    pub(crate) fn add_item(
-        &mut self,
-        site: Site<'a>,
-    ) -> Result<(Known, Visibility), Failure<Trouble>> {
-        let (name, _) = self.list_name(site.name)?;
-        let at = self.known(site.module)?;
-        let vis = self.visibility(at, site.vis)?;
-        self.items.push(Declared {
-            name,
-            module: text_of(site.module)?,
-            vis,
-        })?;
-        Ok((at, vis))
-    }
-
-    fn add_path(
-        &mut self,
-        text: Word<'a>,
-        asking: Option<Asking<'a>>,
-    ) -> Result<(), Failure<Trouble>> {
-        let question = match asking {
-            Some(asking) => Some(asking.question(self.known(asking.module)?.id)),
-            None => None,
-        };
-        self.paths.push(text)?;
-        self.questions.push(question)?;
-        Ok(())
-    }
-
-    fn add(&mut self, statement: Statement<'a>) -> Result<(), Failure<Trouble>> {
         match statement {
             Statement::Crate(name, edition) => self.add_crate(name, edition),
             Statement::Module(name, raw) => self.add_inner(name, raw),
@@ -235,6 +126,7 @@ impl<'a> Firmware<'a> {
             Statement::MacroUse(name, map, meant) => self.add_macro_use(name, map, meant),
             Statement::Prelude(module, map) => self.add_prelude(module, map),
             Statement::Path(text, asking) => self.add_path(text, asking),
+            Statement::Model(name, below) => self.add_model(name, below),
         }
     }
 
@@ -242,8 +134,9 @@ impl<'a> Firmware<'a> {
     pub fn read(alloc: Global, text: &'a [u8]) -> Result<Firmware<'a>, Failure<Trouble>> {
         let mut firmware = Firmware::new(alloc)?;
         for (i, line) in text.split(|b| *b == b'\n').enumerate() {
-            if let Some(statement) = Statement::of(StatementWords::of(line, i.saturating_add(1)))? {
-                firmware.add(statement)?;
+            let words = StatementWords::of(line, i.saturating_add(1));
+            if let Some((verb, statement)) = Statement::of(words)? {
+                firmware.add(verb, statement)?;
             }
         }
         Ok(firmware)

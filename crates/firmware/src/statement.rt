@@ -33,6 +33,8 @@ pub(crate) enum Statement<'a> {
     Prelude(Word<'a>, Word<'a>),
     /// A path, and who asks it, if anyone does.
     Path(Word<'a>, Option<Asking<'a>>),
+    /// A card model, and the one that it is over, if it is not over the tree.
+    Model(Word<'a>, Option<Word<'a>>),
 }
 
 fn read_legacy<'a>(words: &mut StatementWords<'a>) -> Result<Statement<'a>, Complaint> {
@@ -87,19 +89,49 @@ fn read_meaning<'a>(
     Ok((name, within, words.expect(expected)?))
 }
 
+// `NAME`, or `NAME over MODEL`.
+fn read_model<'a>(words: &mut StatementWords<'a>) -> Result<Statement<'a>, Complaint> {
+    let name = words.expect("the model's name")?;
+    let below = match words.next_word() {
+        None => None,
+        Some(word) if word.is("over") => Some(words.expect("the name of a model declared above")?),
+        Some(word) => {
+            return Err(Complaint::at(
+                word,
+                "this word cannot stand here",
+                "`over` and the name of a model declared above, or the end of the line",
+            ));
+        }
+    };
+    Ok(Statement::Model(name, below))
+}
+
 fn defined<'a>(kind: ItemKind, words: &mut StatementWords<'a>) -> Result<Statement<'a>, Complaint> {
     Ok(Statement::Defined(kind, read_site(words)?))
 }
 
 impl<'a> Statement<'a> {
-    /// The statement of a line, if it has one.
-    pub(crate) fn of(mut words: StatementWords<'a>) -> Result<Option<Statement<'a>>, Complaint> {
+    /// The statement of a line, if it has one, and its first word.
+    pub(crate) fn of(
+        mut words: StatementWords<'a>,
+    ) -> Result<Option<(Word<'a>, Statement<'a>)>, Complaint> {
         let Some(verb) = words.next_word() else {
             return Ok(None);
         };
         let statement = Statement::after(verb, &mut words)?;
         words.expect_end()?;
-        Ok(Some(statement))
+        Ok(Some((verb, statement)))
+    }
+
+    /// Whether it may stand below a model: it tells nothing of the tree, nor of the tables beside it.
+    pub(crate) fn stands_below_models(self) -> bool {
+        matches!(
+            self,
+            Statement::Defined(_, _)
+                | Statement::Use(_, _, _)
+                | Statement::Path(_, _)
+                | Statement::Model(_, _)
+        )
     }
 
     fn after(verb: Word<'a>, words: &mut StatementWords<'a>) -> Result<Statement<'a>, Complaint> {
@@ -154,6 +186,7 @@ impl<'a> Statement<'a> {
                 let path = words.expect("a path, as in `crate::layout::stripe_of`")?;
                 Ok(Statement::Path(path, read_asking(words)?))
             }
+            "model" => read_model(words),
             _ => Err(Complaint::at(
                 verb,
                 "no statement begins so",
