@@ -1,11 +1,11 @@
 // feqhazo: reads firmware trees and prints which modules may see each of their items, what holds their places after all deliveries,
-// and what their paths are read as.
+// what their paths are read as, and what each card model over them keeps and cuts.
 #![tactic(auto)]
 
 use anyhow::anyhow;
 use command_line::{Format, Options, read_options};
-use reports::files::{File, ReportError, report_files};
-use reports::indexed::{Lending, Make};
+use model_reports::files::{File, ReportError, report_files};
+use model_reports::indexed::{Lending, Make};
 use reports::style::{Form, Style};
 use std::io::{BufWriter, Read};
 use std::process::ExitCode;

@@ -1,6 +1,6 @@
 // Definitions and imports: what holds each place, and what is refused.
 use crate::written::{TABLE, complains, says, styled, written};
-use reports::indexed::{Lending, Make};
+use model_reports::indexed::{Lending, Make};
 use reports::style::Form;
 use std::test::Fail;
 

@@ -4,6 +4,10 @@
 #[cfg(test)]
 mod deliveries;
 #[cfg(test)]
+mod model_reports;
+#[cfg(test)]
+mod models;
+#[cfg(test)]
 mod questions;
 #[cfg(test)]
 mod reading;

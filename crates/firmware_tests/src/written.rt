@@ -1,6 +1,6 @@
 // What is written of files, in each form.
-use reports::files::{File, ReportError, report_files};
-use reports::indexed::{Lending, Make};
+use model_reports::files::{File, ReportError, report_files};
+use model_reports::indexed::{Lending, Make};
 use reports::style::{Form, Style};
 use std::alloc::Global;
 use std::process::Abort;

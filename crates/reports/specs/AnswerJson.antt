@@ -1,10 +1,22 @@
 -- What is written of the answer to a path as JSON. The members are in the order of their names.
 use Rattle.std.specs.Prelude.{ℕ, Bool, List, Some, None, Option, codes}
-use Rattle.serde_json.specs.Data.{Data, null, boolean, string, object, member, no_members}
+use Rattle.std.specs.List.{slice_get}
+use Rattle.hir_def.specs.declared.Name.{Name}
+use Rattle.hir_def.specs.declared.Namespace.TheVariants.{Types, Values, Macros}
+use Rattle.hir_def.specs.declared.fault.FaultCode.{FaultCode}
+use Rattle.hir_def.specs.FaultTexts.{layer_text}
+use Rattle.entries.specs.declared.per_ns.PerNs.{PerNs}
+use Rattle.path_resolution.specs.declared.answer.ResolvePathResult.{ResolvePathResult}
+use Rattle.path_resolution.specs.declared.question.Question.{Question}
+use Rattle.firmware.specs.declared.definitions.Definitions.{Definitions}
+use Rattle.serde_json.specs.Data.{Data, null, boolean, number, unsigned, string, object, member, no_members}
 use Rattle.reports.specs.declared.holders.Holder.{Holder}
+use Rattle.reports.specs.Answers.{mode_word, shadow_word, macro_word, status_word}
+use Rattle.reports.specs.Holders.{entry_at}
+use Rattle.reports.specs.Json.{name_data}
 use Rattle.reports.specs.PlaceJson.{line_data}
 use Rattle.reports.specs.Places.{kind_word, by_word, told_text}
-use Rattle.reports.specs.Shown.{visibility_text}
+use Rattle.reports.specs.Shown.{module_text, visibility_text}
 
 abbrev pub entry_data : List ℕ → List ℕ → List ℕ → List ℕ → Data → Data
 entry_data def kind vis by line = object
@@ -46,3 +58,35 @@ answer_data question entries status index name flags = object
     (member (codes "name") name
     (member (codes "question") question
     (member (codes "status") (string status) no_members)))))))
+
+-- the entries of an answer by the statements of a file
+abbrev pub entries_told : List (List ℕ) → Definitions → PerNs → Data
+entries_told names f e = entries_data (entry_told names (entry_at f e Types)) (entry_told names (entry_at f e Values)) (entry_told names (entry_at f e Macros))
+
+abbrev pub question_told : List (List ℕ) → Question → Data
+question_told names q = question_data (module_text names q.original_module) (mode_word q.mode) (shadow_word q.shadow) (macro_word q.expected_macro_subns)
+
+-- a name of the path, if there is one
+abbrev pub found_data : List (List ℕ) → Option Name → Data
+found_data ls None = null
+found_data ls (Some n) = name_data ls n
+
+-- the first name that was not resolved, if one was not
+abbrev pub stop_data : List (List ℕ) → List Name → Option ℕ → Data
+stop_data ls path None = null
+stop_data ls path (Some i) = found_data ls (slice_get path i)
+
+-- what a path stands for where it is asked
+abbrev pub answer_told : List (List ℕ) → Definitions → List (List ℕ) → List Name → Question → ResolvePathResult → Data
+answer_told names f ls path q a =
+    answer_data (question_told names q) (entries_told names f a.resolved_def) (status_word a.reached_fixedpoint) (line_data a.segment_index) (stop_data ls path a.segment_index)
+    (flags_data a.prefix_info.differing_crate a.prefix_info.enum_variant)
+
+-- why a path is not asked, with a sentence beside the refusal
+abbrev pub refused_path_data : FaultCode → List ℕ → Data
+refused_path_data code why = object
+    (member (codes "kind") (string (codes "refused-path"))
+    (member (codes "layer") (string (layer_text code.layer))
+    (member (codes "number") (number (unsigned code.number))
+    (member (codes "place") (number (unsigned code.place))
+    (member (codes "why") (string why) no_members)))))

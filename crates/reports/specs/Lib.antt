@@ -9,3 +9,5 @@ pub mod Json
 pub mod PlaceJson
 pub mod Answers
 pub mod AnswerJson
+pub mod Written
+pub mod Receiving

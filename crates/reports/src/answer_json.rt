@@ -1,8 +1,9 @@
 // The answer to a path as JSON.
-ghost use Rattle.std.specs.Prelude.{◌≡◌, IfOk};
+ghost use Rattle.std.specs.Prelude.{◌≡◌, ℕ, List, IfOk, vec_items};
+ghost use Rattle.hir_def.specs.Faults.{code_of};
 ghost use Rattle.serde_json.specs.View.{view};
 ghost use Rattle.reports.specs.Shown.{held};
-ghost use Rattle.reports.specs.AnswerJson.{entry_data, entry_told, entries_data, question_data, flags_data, answer_data};
+ghost use Rattle.reports.specs.AnswerJson.{entry_data, entry_told, entries_data, entries_told, question_data, question_told, flags_data, answer_data, answer_told, found_data, stop_data, refused_path_data};
 
 use crate::answers::{macro_word, mode_word, shadow_word, status_word};
 use crate::holders::{Holder, entry_holder};
@@ -10,10 +11,12 @@ use crate::json::name_value;
 use crate::names::{ModuleText, VisibilityText};
 use crate::place_json::line_value;
 use crate::places::{ToldText, by_word, kind_word};
+use entries::per_ns::PerNs;
+use firmware::definitions::Definitions;
 use firmware::survey::Survey;
 use hir_def::fault::{Fault, FaultCode};
 use hir_def::{Name, Namespace};
-use path_resolution::answer::{ResolvePathResult, ResolvePathResultPrefixInfo};
+use path_resolution::answer::ResolvePathResult;
 use path_resolution::question::Question;
 use path_text::mod_path::ModPath;
 use path_text::name_list::NameList;
@@ -119,17 +122,63 @@ fn entries_object(
     json!(in alloc; {"types": types, "values": values, "macros": macros})
 }
 
+// A name of the path by the list, or null.
+fn found_value(alloc: Global, list: &NameList, name: Option<Name>) -> Result<Value, AllocError>
+    ensures { IfOk result (λ v. view v ≡ found_data list.now name) }
+{
+    match name {
+        Some(name) => name_value(alloc, list, name),
+        None => Ok(Value::Null),
+    }
+}
+
 // The first name that was not resolved, or null.
 fn stop_value(
     alloc: Global,
     list: &NameList,
     path: &[Name],
     index: Option<usize>,
-) -> Result<Value, AllocError> {
-    match index.and_then(|index| path.get(index)) {
-        Some(name) => name_value(alloc, list, *name),
+) -> Result<Value, AllocError>
+    ensures { IfOk result (λ v. view v ≡ stop_data list.now path.now index) }
+{
+    match index {
+        Some(index) => found_value(alloc, list, path.get(index).copied()),
         None => Ok(Value::Null),
     }
+}
+
+fn entries_value(
+    alloc: Global,
+    names: &[&str],
+    definitions: &Definitions,
+    found: &PerNs,
+) -> Result<Value, AllocError>
+    ensures { IfOk result (λ v. view v ≡ entries_told (held names.now) definitions.now found.now) }
+{
+    let types = entry_holder(definitions, found, Namespace::Types);
+    let types = entry_value(alloc, names, types)?;
+    let values = entry_holder(definitions, found, Namespace::Values);
+    let values = entry_value(alloc, names, values)?;
+    let macros = entry_holder(definitions, found, Namespace::Macros);
+    let macros = entry_value(alloc, names, macros)?;
+    entries_object(alloc, &types, &values, &macros)
+}
+
+fn question_value(alloc: Global, names: &[&str], question: Question) -> Result<Value, AllocError>
+    ensures { IfOk result (λ v. view v ≡ question_told (held names.now) question) }
+{
+    let from = ModuleText {
+        names,
+        module: question.original_module,
+    };
+    let from = format!(in alloc; "{from}")?;
+    question_object(
+        alloc,
+        from.as_str(),
+        mode_word(question.mode),
+        shadow_word(question.shadow),
+        macro_word(question.expected_macro_subns),
+    )
 }
 
 /// What a path stands for where it is asked.
@@ -139,15 +188,15 @@ pub fn answer_value(
     path: &ModPath,
     question: Question,
     answer: ResolvePathResult,
-) -> Result<Value, AllocError> {
+) -> Result<Value, AllocError>
+    ensures { let f = survey.now.firmware.now in
+        IfOk result (λ v. view v ≡ answer_told (held (vec_items f.names)) f.definitions survey.now.list.now
+        (vec_items path.now.names) question answer) }
+{
     let names = survey.firmware.names.as_slice();
     let definitions = &survey.firmware.definitions;
-    let found = &answer.resolved_def;
-    let from = ModuleText {
-        names,
-        module: question.original_module,
-    };
-    let from = format!(in alloc; "{from}")?;
+    let entries = entries_value(alloc, names, definitions, &answer.resolved_def)?;
+    let question = question_value(alloc, names, question)?;
     let index = line_value(answer.segment_index);
     let name = stop_value(
         alloc,
@@ -155,44 +204,31 @@ pub fn answer_value(
         path.names.as_slice(),
         answer.segment_index,
     )?;
-    let types = entry_holder(definitions, found, Namespace::Types);
-    let types = entry_value(alloc, names, types)?;
-    let values = entry_holder(definitions, found, Namespace::Values);
-    let values = entry_value(alloc, names, values)?;
-    let macros = entry_holder(definitions, found, Namespace::Macros);
-    let macros = entry_value(alloc, names, macros)?;
-    let entries = entries_object(alloc, &types, &values, &macros)?;
-    let question = question_object(
-        alloc,
-        from.as_str(),
-        mode_word(question.mode),
-        shadow_word(question.shadow),
-        macro_word(question.expected_macro_subns),
-    )?;
-    let ResolvePathResultPrefixInfo {
-        differing_crate,
-        enum_variant,
-    } = answer.prefix_info;
-    let flags = flags_object(alloc, differing_crate, enum_variant)?;
+    let flags = answer.prefix_info;
+    let flags = flags_object(alloc, flags.differing_crate, flags.enum_variant)?;
     let status = status_word(answer.reached_fixedpoint);
     answer_object(alloc, &question, &entries, status, &index, &name, &flags)
 }
 
-/// A path that is not asked, and why.
-pub fn refused_path_value(alloc: Global, fault: Fault) -> Result<Value, AllocError> {
-    let FaultCode {
-        layer,
-        number,
-        place,
-    } = fault.code();
+fn refused_path_object(alloc: Global, code: FaultCode, why: &str) -> Result<Value, AllocError>
+    ensures { IfOk result (λ v. view v ≡ refused_path_data code why.now) }
+{
+    let layer = code.layer;
     let layer = format!(in alloc; "{layer}")?;
-    let why = format!(in alloc; "{fault}")?;
-    let place = place as u64;
+    let place = code.place as u64;
     json!(in alloc; {
         "kind": "refused-path",
         "layer": layer.as_str(),
-        "number": number,
+        "number": code.number,
         "place": place,
-        "why": why.as_str()
+        "why": why
     })
+}
+
+/// A path that is not asked, and why. No clause tells the sentence of a refusal.
+pub fn refused_path_value(alloc: Global, fault: Fault) -> Result<Value, AllocError>
+    ensures { IfOk result (λ v. (why : List ℕ) × (view v ≡ refused_path_data (code_of fault) why)) }
+{
+    let why = format!(in alloc; "{fault}")?;
+    refused_path_object(alloc, fault.code(), why.as_str())
 }

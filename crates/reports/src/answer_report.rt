@@ -19,8 +19,8 @@ use std::io;
 
 const NAMESPACES: [Namespace; 3] = [Namespace::Types, Namespace::Values, Namespace::Macros];
 
-// For people: who asks, the entry of each namespace, and what else is answered.
-fn write_told<W: io::Write>(
+/// For people: who asks, the entry of each namespace, and what else is answered.
+pub fn write_told<W: io::Write>(
     w: &mut W,
     survey: &Survey,
     path: &ModPath,
@@ -49,7 +49,8 @@ fn write_told<W: io::Write>(
     write!(w, "{told}")
 }
 
-fn write_line<W: io::Write>(
+/// The same as a line.
+pub fn write_line<W: io::Write>(
     w: &mut W,
     survey: &Survey,
     path: &ModPath,
@@ -75,7 +76,8 @@ fn write_line<W: io::Write>(
     write!(w, "{line}\n")
 }
 
-fn write_refused<W: io::Write>(
+/// Why a path is not asked.
+pub fn write_refused<W: io::Write>(
     alloc: Global,
     w: &mut W,
     fault: PathFault,

@@ -1,9 +1,13 @@
 // The report as JSON, an object for each file, item, path and account.
-ghost use Rattle.std.specs.Prelude.{◌≡◌, IfOk};
-ghost use Rattle.serde_json.specs.Data.{Data, string};
-ghost use Rattle.serde_json.specs.View.{view};
-ghost use Rattle.reports.specs.Shown.{held, module_text};
-ghost use Rattle.reports.specs.Json.{file_data, account_data, of_data, item_data, item_seen};
+ghost use Rattle.std.specs.Prelude.{◌≡◌, ℕ, List, IfOk, OnOk, false, map, vec_items};
+ghost use Rattle.std.specs.Io.KnownBytes.{Appends};
+ghost use Rattle.hir_def.specs.Faults.{code_of};
+ghost use Rattle.serde_json.specs.Data.{string, array};
+ghost use Rattle.serde_json.specs.View.{view, items_of};
+ghost use Rattle.serde_json.specs.Written.{has_float};
+ghost use Rattle.reports.specs.Shown.{held, module_text, visibility_text};
+ghost use Rattle.reports.specs.Json.{file_data, account_data, of_data, item_data, item_seen, module_data, seers_data, refused_data, name_data, names_data, numbers_data, path_object, path_data};
+ghost use Rattle.reports.specs.Written.{value_line};
 
 use crate::items::AccountTold;
 use crate::names::{ModuleText, VisibilityText};
@@ -26,7 +30,9 @@ fn module_name(alloc: Global, names: &[&str], of: ModuleId) -> Result<Value, All
     Ok(Value::String(format!(in alloc; "{name}")?))
 }
 
-fn module_names(alloc: Global, names: &[&str], modules: &[ModuleId]) -> Result<Value, AllocError> {
+fn module_names(alloc: Global, names: &[&str], modules: &[ModuleId]) -> Result<Value, AllocError>
+    ensures { IfOk result (λ v. view v ≡ array (items_of (map (module_data (held names.now)) modules.now))) }
+{
     let mut values = Vec::new(alloc);
     for module in modules {
         values.push(module_name(alloc, names, *module)?)?;
@@ -35,10 +41,15 @@ fn module_names(alloc: Global, names: &[&str], modules: &[ModuleId]) -> Result<V
 }
 
 // The names of the modules, where they are to be told.
-fn seers_of(alloc: Global, names: &[&str], seen: &Seen, all: bool) -> Result<Value, AllocError> {
+fn seers_of(alloc: Global, names: &[&str], seen: &Seen, all: bool) -> Result<Value, AllocError>
+    ensures { IfOk result (λ v. view v ≡ seers_data (held names.now) seen.now.seers all) }
+{
+    if !all {
+        return Ok(Value::Null);
+    }
     match &seen.seers {
-        Some(seers) if all => module_names(alloc, names, seers.as_slice()),
-        _ => Ok(Value::Null),
+        Some(seers) => module_names(alloc, names, seers.as_slice()),
+        None => Ok(Value::Null),
     }
 }
 
@@ -104,7 +115,7 @@ pub fn item_value(
     of: ModuleId,
     all: bool,
 ) -> Result<Value, AllocError>
-    ensures { IfOk result (λ v. (seers : Data) × (view v ≡ item_seen (held names.now) item.entry seen.now of seers)) }
+    ensures { IfOk result (λ v. view v ≡ item_seen (held names.now) item.entry seen.now of all) }
 {
     let vis = VisibilityText {
         names,
@@ -125,59 +136,97 @@ pub fn item_value(
     )
 }
 
-/// An item whose visibility names what does not exist.
+fn refused_object(
+    alloc: Global,
+    item: Declared,
+    vis: &str,
+    code: FaultCode,
+    why: &str,
+) -> Result<Value, AllocError>
+    ensures { IfOk result (λ v. view v ≡ refused_data item.entry vis.now code why.now) }
+{
+    let layer = code.layer;
+    let layer = format!(in alloc; "{layer}")?;
+    let place = code.place as u64;
+    json!(in alloc; {
+        "kind": "refused",
+        "item": item.name,
+        "module": item.module,
+        "visibility": vis,
+        "layer": layer.as_str(),
+        "number": code.number,
+        "place": place,
+        "why": why
+    })
+}
+
+/// An item whose visibility names what does not exist. No clause tells the sentence of a refusal.
 pub fn refused_value(
     alloc: Global,
     names: &[&str],
     item: Declared,
     fault: Fault,
-) -> Result<Value, AllocError> {
+) -> Result<Value, AllocError>
+    ensures { IfOk result (λ v. (why : List ℕ)
+        × (view v ≡ refused_data item.entry (visibility_text (held names.now) item.entry.vis) (code_of fault) why)) }
+{
     let vis = VisibilityText {
         names,
         vis: item.vis,
     };
     let vis = format!(in alloc; "{vis}")?;
-    let FaultCode {
-        layer,
-        number,
-        place,
-    } = fault.code();
-    let layer = format!(in alloc; "{layer}")?;
     let why = format!(in alloc; "{fault}")?;
-    let place = place as u64;
-    json!(in alloc; {
-        "kind": "refused",
-        "item": item.name,
-        "module": item.module,
-        "visibility": vis.as_str(),
-        "layer": layer.as_str(),
-        "number": number,
-        "place": place,
-        "why": why.as_str()
-    })
+    refused_object(alloc, item, vis.as_str(), fault.code(), why.as_str())
 }
 
-fn numbers_of(alloc: Global, path: &ModPath) -> Result<Value, AllocError> {
+fn numbers_of(alloc: Global, names: &[Name]) -> Result<Value, AllocError>
+    ensures { IfOk result (λ v. view v ≡ numbers_data names.now) }
+{
     let mut values = Vec::new(alloc);
-    for name in &path.names {
+    for name in names {
         values.push(Value::from(name.0))?;
     }
     Ok(Value::Array(values))
 }
 
-pub(crate) fn name_value(alloc: Global, list: &NameList, name: Name) -> Result<Value, AllocError> {
+/// A name by the list, or null.
+pub(crate) fn name_value(alloc: Global, list: &NameList, name: Name) -> Result<Value, AllocError>
+    ensures { IfOk result (λ v. view v ≡ name_data list.now name) }
+{
     match list.text(name) {
         Some(line) => Ok(Value::String(String::from_utf8_lossy(alloc, line)?)),
         None => Ok(Value::Null),
     }
 }
 
-fn names_of(alloc: Global, list: &NameList, path: &ModPath) -> Result<Value, AllocError> {
+fn names_of(alloc: Global, list: &NameList, names: &[Name]) -> Result<Value, AllocError>
+    ensures { IfOk result (λ v. view v ≡ names_data list.now names.now) }
+{
     let mut values = Vec::new(alloc);
-    for name in &path.names {
+    for name in names {
         values.push(name_value(alloc, list, *name)?)?;
     }
     Ok(Value::Array(values))
+}
+
+fn path_json(
+    alloc: Global,
+    text: &str,
+    start: &str,
+    level: u32,
+    names: &Value,
+    numbers: &Value,
+) -> Result<Value, AllocError>
+    ensures { IfOk result (λ v. view v ≡ path_object text.now start.now level (view names.now) (view numbers.now)) }
+{
+    json!(in alloc; {
+        "kind": "path",
+        "path": text,
+        "start": start,
+        "level": level,
+        "names": names,
+        "numbers": numbers
+    })
 }
 
 /// A path and what it was read as.
@@ -186,19 +235,15 @@ pub fn path_value(
     text: &[u8],
     list: &NameList,
     path: &ModPath,
-) -> Result<Value, AllocError> {
+) -> Result<Value, AllocError>
+    ensures { IfOk result (λ v. view v ≡ path_data list.now text.now path.now.kind (vec_items path.now.names)) }
+{
     let text = String::from_utf8_lossy(alloc, text)?;
+    let names = names_of(alloc, list, path.names.as_slice())?;
+    let numbers = numbers_of(alloc, path.names.as_slice())?;
+    let start = kind_word(path.kind);
     let level = level_of(path.kind);
-    let names = names_of(alloc, list, path)?;
-    let numbers = numbers_of(alloc, path)?;
-    json!(in alloc; {
-        "kind": "path",
-        "path": text.as_str(),
-        "start": kind_word(path.kind),
-        "level": level,
-        "names": &names,
-        "numbers": &numbers
-    })
+    path_json(alloc, text.as_str(), start, level, &names, &numbers)
 }
 
 /// The account of a file.
@@ -224,7 +269,11 @@ pub fn account_value(alloc: Global, told: AccountTold) -> Result<Value, AllocErr
 }
 
 /// A value as a line.
-pub(crate) fn write_value<W: io::Write>(alloc: Global, w: &mut W, value: &Value) -> io::Result<()> {
+#[tactic(auto, unfolding(crate::specs::Written::value_line))]
+pub fn write_value<W: io::Write>(alloc: Global, w: &mut W, value: &Value) -> io::Result<()>
+    ensures { OnOk result (has_float (view value.now) ≡ false
+        → Appends (W.contents w.old) (W.contents w.new) (value_line (view value.now))) }
+{
     let text = value.to_string(alloc)?;
     writeln!(w, "{text}")
 }

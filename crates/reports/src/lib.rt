@@ -2,18 +2,16 @@
 #![tactic(auto)]
 
 pub mod answer_json;
-mod answer_report;
+pub mod answer_report;
 pub mod answers;
 pub mod counts;
-pub mod files;
 pub mod holders;
-pub mod indexed;
 mod item_report;
 pub mod items;
 pub mod json;
 pub mod names;
 pub mod place_json;
-mod place_report;
+pub mod place_report;
 pub mod places;
 pub mod range;
 pub mod report;

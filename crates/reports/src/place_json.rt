@@ -1,8 +1,9 @@
 // A place and a refused delivery as JSON.
-ghost use Rattle.std.specs.Prelude.{◌≡◌, IfOk};
+ghost use Rattle.std.specs.Prelude.{◌≡◌, ℕ, List, IfOk};
+ghost use Rattle.hir_def.specs.Faults.{code_of};
 ghost use Rattle.serde_json.specs.View.{view};
 ghost use Rattle.reports.specs.Shown.{held};
-ghost use Rattle.reports.specs.PlaceJson.{line_data, place_data, place_held};
+ghost use Rattle.reports.specs.PlaceJson.{line_data, place_data, place_held, refused_delivery_data};
 
 use crate::holders::Holder;
 use crate::names::VisibilityText;
@@ -14,7 +15,7 @@ use serde_json::{Value, json};
 use std::alloc::{AllocError, Global};
 
 /// A number, or null.
-pub(crate) fn line_value(line: Option<usize>) -> Value
+pub fn line_value(line: Option<usize>) -> Value
     ensures { view result ≡ line_data line }
 {
     match line {
@@ -80,29 +81,39 @@ pub fn place_value(
     )
 }
 
-/// A delivery that was refused, and why.
-pub fn refused_delivery_value(
+fn refused_delivery_object(
     alloc: Global,
     statement: DeliveryStatement,
-    fault: Fault,
-) -> Result<Value, AllocError> {
-    let FaultCode {
-        layer,
-        number,
-        place,
-    } = fault.code();
+    code: FaultCode,
+    why: &str,
+) -> Result<Value, AllocError>
+    ensures { IfOk result (λ v. view v ≡ refused_delivery_data statement.entry code why.now) }
+{
+    let layer = code.layer;
     let layer = format!(in alloc; "{layer}")?;
-    let why = format!(in alloc; "{fault}")?;
     let line = statement.line as u64;
-    let place = place as u64;
+    let place = code.place as u64;
     json!(in alloc; {
         "kind": "refused-delivery",
         "name": statement.name,
         "module": statement.module,
         "line": line,
         "layer": layer.as_str(),
-        "number": number,
+        "number": code.number,
         "place": place,
-        "why": why.as_str()
+        "why": why
     })
+}
+
+/// A delivery that was refused, and why. No clause tells the sentence of a refusal.
+pub fn refused_delivery_value(
+    alloc: Global,
+    statement: DeliveryStatement,
+    fault: Fault,
+) -> Result<Value, AllocError>
+    ensures { IfOk result (λ v. (why : List ℕ)
+        × (view v ≡ refused_delivery_data statement.entry (code_of fault) why)) }
+{
+    let why = format!(in alloc; "{fault}")?;
+    refused_delivery_object(alloc, statement, fault.code(), why.as_str())
 }

@@ -1,10 +1,14 @@
 // Writes what holds each place, and which deliveries were refused.
+ghost use Rattle.std.specs.Prelude.{IfOk, vec_items};
+ghost use Rattle.reports.specs.Receiving.{Receiving};
+
 use crate::holders::{Holder, place_holder};
 use crate::json::write_value;
 use crate::place_json::{place_value, refused_delivery_value};
 use crate::places::{DeliveryLine, DeliveryTold, HolderTold, PlaceLine};
 use crate::style::Form;
 use firmware::deliveries::Outcome;
+use firmware::pile::Part;
 use firmware::reader::DeliveryStatement;
 use firmware::survey::Survey;
 use firmware::trouble::FaultTold;
@@ -20,7 +24,9 @@ const NAMESPACES: [Namespace; 3] = [Namespace::Types, Namespace::Values, Namespa
 fn receiving<'a>(
     alloc: Global,
     statements: &[DeliveryStatement<'a>],
-) -> Result<Vec<DeliveryStatement<'a>>, AllocError> {
+) -> Result<Vec<DeliveryStatement<'a>>, AllocError>
+    ensures { IfOk result (λ v. Receiving statements.now (vec_items v)) }
+{
     let mut sorted = Vec::from_slice(alloc, statements)?;
     sorted.sort_by_key(|s| (s.delivery.receiver.0, s.delivery.name.0))?;
     sorted.dedup_by_key(|s| (s.delivery.receiver.0, s.delivery.name.0));
@@ -61,7 +67,7 @@ fn write_holder<W: io::Write>(
     }
 }
 
-/// What holds each place of the file, in the order of modules, names and namespaces.
+/// What holds each place of the base, in the order of modules, names and namespaces.
 pub(crate) fn write_places<I: Index, W: io::Write>(
     alloc: Global,
     w: &mut W,
@@ -71,7 +77,7 @@ pub(crate) fn write_places<I: Index, W: io::Write>(
 ) -> io::Result<()> {
     let names = survey.firmware.names.as_slice();
     let definitions = &survey.firmware.definitions;
-    let statements = receiving(alloc, survey.firmware.deliveries.as_slice())?;
+    let statements = receiving(alloc, survey.firmware.deliveries_of(Part::Base))?;
     for statement in statements.iter() {
         let at = statement.delivery.receiver;
         let name = statement.delivery.name;
@@ -118,7 +124,7 @@ fn write_refused_delivery<W: io::Write>(
 }
 
 /// Each delivery that was refused, in the order of the file.
-pub(crate) fn write_refused_deliveries<W: io::Write>(
+pub fn write_refused_deliveries<W: io::Write>(
     alloc: Global,
     w: &mut W,
     outcomes: &[Outcome],

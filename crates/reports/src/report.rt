@@ -1,4 +1,8 @@
-// Writes the report on a file that was taken, statement by statement.
+// Writes the report on the base of a file that was taken, statement by statement.
+ghost use Rattle.std.specs.Prelude.{OnOk};
+ghost use Rattle.std.specs.Io.KnownBytes.{Appends};
+ghost use Rattle.reports.specs.Written.{heading};
+
 use crate::answer_report::write_answer;
 use crate::counts::DeliveryCounts;
 use crate::item_report::write_items;
@@ -7,6 +11,7 @@ use crate::json::{account_value, file_value, path_value, write_value};
 use crate::place_report::{write_places, write_refused_deliveries};
 use crate::style::{Form, Style};
 use firmware::deliveries::deliver_all;
+use firmware::pile::Part;
 use firmware::survey::Survey;
 use item_scope::index::Recipient;
 use nameres::Tree;
@@ -18,8 +23,8 @@ use paths::told::PathTold;
 use std::alloc::{AllocError, Global};
 use std::io;
 
-// The text that a path is written as.
-fn text_of(alloc: Global, list: &NameList, path: &ModPath) -> Result<Vec<u8>, AllocError> {
+/// The text that a path is written as.
+pub fn text_of(alloc: Global, list: &NameList, path: &ModPath) -> Result<Vec<u8>, AllocError> {
     match write_path(alloc, list, path)? {
         Some(text) => Ok(text),
         None => Vec::from_slice(alloc, b"with a name that the list does not have"),
@@ -75,7 +80,7 @@ fn write_account<W: io::Write>(
     }
 }
 
-/// Makes the deliveries of a file to an index that has its tables and empty places, and writes the report.
+/// Makes the deliveries of a file's base to an index that has its tables and empty places, and writes the report.
 pub fn write_report<I: Recipient, W: io::Write, E: io::Write>(
     alloc: Global,
     w: &mut W,
@@ -86,11 +91,13 @@ pub fn write_report<I: Recipient, W: io::Write, E: io::Write>(
     style: Style,
 ) -> io::Result<()> {
     let account = write_items(alloc, w, progress, path, survey, style)?;
-    let statements = survey.firmware.deliveries.as_slice();
+    let statements = survey.firmware.deliveries_of(Part::Base);
     let outcomes = deliver_all(alloc, index, statements)?;
     write_places(alloc, w, survey, &*index, style.form)?;
     write_refused_deliveries(alloc, w, outcomes.as_slice(), style.form)?;
-    for (path, question) in survey.paths.iter().zip(&survey.firmware.questions) {
+    let paths = survey.firmware.paths_of(Part::Base).end;
+    let questions = survey.firmware.questions.iter().take(paths);
+    for (path, question) in survey.paths.iter().zip(questions) {
         write_path_report(alloc, w, survey, path, style.form)?;
         if let Some(question) = question {
             write_answer(alloc, w, survey, &*index, path, *question, style.form)?;
@@ -99,7 +106,7 @@ pub fn write_report<I: Recipient, W: io::Write, E: io::Write>(
     let told = AccountTold {
         account,
         modules: survey.tables.modules(),
-        paths: survey.paths.len(),
+        paths,
         deliveries: DeliveryCounts::of(outcomes.as_slice()),
     };
     write_account(alloc, w, told, style.form)
@@ -112,7 +119,9 @@ pub fn write_heading<W: io::Write>(
     path: &str,
     survey: &Survey,
     form: Form,
-) -> io::Result<()> {
+) -> io::Result<()>
+    ensures { OnOk result (Appends (W.contents w.old) (W.contents w.new) (heading form path.now survey.now)) }
+{
     match form {
         Form::Text => write!(w, "file {path}\n\n"),
         Form::Lines => write!(w, "file {path}\n"),

@@ -1,14 +1,14 @@
 // Reports on several files: all of them are taken before anything is written.
 ghost use Rattle.std.specs.Prelude.{◌≡◌};
-ghost use Rattle.reports.specs.declared.files.ReportError.TheVariants.{Memory, Write};
+ghost use Rattle.model_reports.specs.declared.files.ReportError.TheVariants.{Memory, Write};
 
 use crate::indexed::{Lending, write_indexed};
-use crate::report::write_heading;
-use crate::style::{Form, Style};
 use firmware::reader::Firmware;
 use firmware::survey::Survey;
 use firmware::trouble::{Located, Trouble};
 use hir_def::fault::Failure;
+use reports::report::write_heading;
+use reports::style::{Form, Style};
 use std::alloc::{AllocError, AllocFailed, Global};
 use std::io;
 

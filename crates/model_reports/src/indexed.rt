@@ -1,10 +1,13 @@
 // The index to which the deliveries of a file are made: its make, and the rows that it is lent.
-use crate::report::write_report;
-use crate::style::Style;
+use crate::models::write_models;
+use firmware::pile::Part;
 use firmware::survey::{Hashers, Survey, tables_of};
 use hir_def::fault::{Failure, Fault};
 use indexes::ledger_index::{FREE_LEDGER_ROW, LedgerIndex};
 use indexes::table_index::{FREE_PLACE_ROW, TableIndex};
+use item_scope::index::Recipient;
+use reports::report::write_report;
+use reports::style::Style;
 use std::alloc::Global;
 use std::io;
 
@@ -22,10 +25,10 @@ pub struct Lending {
 }
 
 impl Lending {
-    // Rows for all deliveries, three for each, or fewer.
+    // Rows for all deliveries of the base, three for each, or fewer.
     fn rows_for(self, survey: &Survey) -> usize {
-        self.rows
-            .min(survey.firmware.deliveries.len().saturating_mul(3))
+        let deliveries = survey.firmware.deliveries_of(Part::Base);
+        self.rows.min(deliveries.len().saturating_mul(3))
     }
 }
 
@@ -38,7 +41,21 @@ fn loaded(answer: Result<(), Failure<Fault>>) -> io::Result<()> {
     }
 }
 
-/// Makes the deliveries of a file to an index of its own, and writes the report.
+// The report on the base, and then on each model over it.
+fn write_whole<I: Recipient, W: io::Write, E: io::Write>(
+    alloc: Global,
+    w: &mut W,
+    progress: &mut E,
+    path: &str,
+    survey: &Survey,
+    index: &mut I,
+    style: Style,
+) -> io::Result<()> {
+    write_report(alloc, w, progress, path, survey, index, style)?;
+    write_models(alloc, w, progress, path, survey, &*index, style)
+}
+
+/// Makes the deliveries of a file's base to an index of its own, and writes the report on it and on the models over it.
 pub fn write_indexed<W: io::Write, E: io::Write>(
     alloc: Global,
     w: &mut W,
@@ -55,13 +72,13 @@ pub fn write_indexed<W: io::Write, E: io::Write>(
             let mut rows = vec![in alloc; FREE_PLACE_ROW; count]?;
             let mut index = TableIndex::new(alloc, Hashers::new(), rows.as_mut_slice())?;
             loaded(index.load(alloc, tables))?;
-            write_report(alloc, w, progress, path, survey, &mut index, style)
+            write_whole(alloc, w, progress, path, survey, &mut index, style)
         }
         Make::Ledger => {
             let mut rows = vec![in alloc; FREE_LEDGER_ROW; count]?;
             let mut index = LedgerIndex::new(alloc, Hashers::new(), rows.as_mut_slice())?;
             loaded(index.load(alloc, tables))?;
-            write_report(alloc, w, progress, path, survey, &mut index, style)
+            write_whole(alloc, w, progress, path, survey, &mut index, style)
         }
     }
 }

@@ -1,0 +1,3 @@
+pub mod Reasons
+pub mod Counted
+pub mod Noting

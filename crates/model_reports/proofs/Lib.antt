@@ -1,0 +1,2 @@
+pub mod Modelling
+pub mod Steps
