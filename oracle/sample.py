@@ -1,5 +1,5 @@
 #!/usr/bin/env python3
-"""Makes the fixed sample of the Rust's answers that is stored in oracle/sample.
+"""Makes the sample of the Rust's answers that the gate replays: sample.in and sample.answers of crates/replay/data.
 
     python3 oracle/sample.py RUST SEED FOLDER
 
@@ -7,10 +7,9 @@ RUST is the program that oracle/build.py made. The worlds are those of oracle/wo
 questions, so that each kind of path, mode, edition, shadow mode and macro kind comes in each combination, each refusal and
 each named difference often. Written to FOLDER are
 
-    stdin     the worlds in the lines of the program `worlds`
-    rust.txt  what the Rust answers, a line for each that `worlds` prints: ANSWER, or NAME: ANSWER where the rules answer
-              otherwise, by the difference of that name
-    stdout    what oracle/replay.py says of them if the port answers by the rules (oracle/rules.py)
+    sample.in       the worlds in the lines of the program `worlds`
+    sample.answers  a line for each that `worlds` prints: ANSWER, or NAME|ANSWER|ANSWER where the rules (first) and the Rust
+                    answer otherwise than each other, by the difference of that name; the rules' are those of oracle/rules.py
 """
 import collections
 import os
@@ -45,7 +44,7 @@ class Sample:
     def __init__(self, rust):
         self.rust = rust
         self.combinations, self.names = collections.Counter(), collections.Counter()
-        self.input, self.rust_lines, self.said, self.answers, self.otherwise = [], [], [], 0, 0
+        self.input, self.stored, self.answers, self.otherwise = [], [], 0, 0
 
     def new(self, words, name, answer, edition):
         """Whether a question's answer is still wanted."""
@@ -101,13 +100,12 @@ class Sample:
         for line, name, other, answer in chosen:
             self.input.append(line)
             if line.startswith("world "):
-                self.rust_lines.append(line)
+                self.stored.append(line)
             if name is not None:
                 self.answers += 1
-                self.rust_lines.append(f"{name}: {other}" if name else other)
+                self.stored.append(f"{name}|{answer}|{other}" if name else other)
                 if name:
                     self.otherwise += 1
-                    self.said.append(f"{len(self.rust_lines)} {name}: {answer} / {other}")
 
 
 def main():
@@ -119,13 +117,10 @@ def main():
     for lines in worlds.worlds(seed, 400, "random"):
         sample.take(lines, 15 if sample.answers < ENOUGH else 0)
     folder.mkdir(parents=True, exist_ok=True)
-    lines = len(sample.rust_lines)
-    sample.said.append(f"{lines} lines: {lines - sample.otherwise} as the Rust's, {sample.otherwise} otherwise as named,"
-                       " 0 otherwise than named")
-    (folder / "stdin").write_text("\n".join(sample.input) + "\n")
-    (folder / "rust.txt").write_text("\n".join(sample.rust_lines) + "\n")
-    (folder / "stdout").write_text("\n".join(sample.said) + "\n")
-    print(f"{sample.said[-1]}; {sample.answers} answers")
+    (folder / "sample.in").write_text("\n".join(sample.input) + "\n")
+    (folder / "sample.answers").write_text("\n".join(sample.stored) + "\n")
+    lines = len(sample.stored)
+    print(f"{lines} lines: {lines - sample.otherwise} alike, {sample.otherwise} otherwise as named; {sample.answers} answers")
     print(f"{len(sample.combinations)} combinations, the rarest {min(sample.combinations.values())} times")
     for name, count in sorted(sample.names.items()):
         print(f"    {count:>5} {name}")

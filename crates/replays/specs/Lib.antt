@@ -1,0 +1,4 @@
+pub mod Answers
+pub mod Rustc
+pub mod Tallies
+pub mod Verdicts
