@@ -4,9 +4,9 @@
 #[cfg(test)]
 mod deliveries;
 #[cfg(test)]
-mod model_reports;
-#[cfg(test)]
 mod models;
+#[cfg(test)]
+mod models_told;
 #[cfg(test)]
 mod questions;
 #[cfg(test)]
