@@ -67,8 +67,11 @@ fn parts(rt: HostRuntime) -> Result<(), Fail> {
         &[function(3)],
     )?;
     has(&rt, &firmware, Part::Model(3), &[], (4, 4), &[])?;
-    let imported = firmware.deliveries_of(Part::Model(1))[0].delivery.entries;
-    assert_eq!(rt; imported.values.map(|item| item.def), Some(structure));
+    let imported = match firmware.deliveries_of(Part::Model(1)) {
+        [first, ..] => first.delivery.entries.values,
+        [] => None,
+    };
+    assert_eq!(rt; imported.map(|item| item.def), Some(structure));
     Ok(())
 }
 
