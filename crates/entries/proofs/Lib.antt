@@ -1,3 +1,4 @@
 pub mod Climbs
+pub mod Kept
 pub mod Viewed
 pub mod Visible

@@ -63,7 +63,7 @@ module _ (t : Shape) (rank : ModuleId → ℕ) (r : Rules t rank) where
           let below : rank (t.outside_of b) < n = omega arith in
           leaves e f (subst (Settles t (t.outside_of b)) (settled-exit t rank r m (t.outside_of b) out) (ih (t.outside_of b) below))
 
-  settles : (m : ModuleId) → Settles t m (settled t m)
+  pub settles : (m : ModuleId) → Settles t m (settled t m)
   settles m = settling (suc (rank m)) m (omega arith)
 
   settled-once : {m n : ModuleId} → Settles t m n → n ≡ settled t m

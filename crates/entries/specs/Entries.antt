@@ -3,18 +3,27 @@ use Rattle.std.specs.Prelude.{◌≡◌, Bool, false, if◌then◌else◌, not, 
 use Rattle.std.specs.Option.{option_or}
 use Rattle.hir_def.specs.declared.MacroId.{MacroId}
 use Rattle.hir_def.specs.declared.ModuleDefId.{ModuleDefId}
+use Rattle.hir_def.specs.declared.ModuleDefId.TheVariants as def
 use Rattle.hir_def.specs.declared.ModuleId.{ModuleId}
 use Rattle.hir_def.specs.declared.import.ImportOrExternCrate.{ImportOrExternCrate}
 use Rattle.hir_def.specs.declared.import.ImportOrGlob.{ImportOrGlob}
 use Rattle.entries.specs.declared.per_ns.Item.{Item}
 use Rattle.entries.specs.declared.per_ns.PerNs.{PerNs}
 use Rattle.entries.specs.declared.visibility.Visibility.{Visibility}
-use Rattle.hir_def.specs.Imports.{narrowed}
+use Rattle.hir_def.specs.Imports.{narrowed, widened}
 use Rattle.nameres.specs.Shapes.{Shape}
 use Rattle.entries.specs.Visibilities.{visible}
 
 abbrev pub entry : {D M : Type 0} → D → Visibility → Option M → Option (Item D M)
 entry d v i = Some (record { def = d; vis = v; import = i })
+
+-- an entry of the values with its def and import as those of any namespace
+abbrev pub value_entry : Item ModuleDefId ImportOrGlob → Item ModuleDefId ImportOrExternCrate
+value_entry it = record { def = it.def; vis = it.vis; import = widened it.import }
+
+-- an entry of the macros with its def as that of any namespace
+abbrev pub macro_entry : Item MacroId ImportOrExternCrate → Item ModuleDefId ImportOrExternCrate
+macro_entry it = record { def = def.MacroId it.def; vis = it.vis; import = it.import }
 
 -- both are there and equal, by a test of equality
 abbrev pub both_equal : {M : Type 0} → (M → M → Bool) → Option M → Option M → Bool

@@ -1,4 +1,5 @@
 pub mod Accounts
 pub mod Entries
+pub mod Merges
 pub mod Viewers
 pub mod Visibilities

@@ -1,4 +1,4 @@
-// The account of a run: how many pairs of an item and a module were seen.
+// The account of a report: how many pairs of an item and a module were seen.
 ghost use Rattle.std.specs.Prelude.{◌≡◌};
 ghost use Rattle.entries.specs.Accounts.{blank, with_item, with_refused, CountsEach};
 

@@ -1,9 +1,10 @@
 // One name can stand for a type, a value and a macro at once: an entry for each namespace.
 ghost use Rattle.std.specs.Prelude.{◌≡◌, Bool, Decides};
-ghost use Rattle.entries.specs.Entries.{Both, both_equal, reresolved_by, nothing, of_types, of_values, of_both, of_macros, is_nothing, is_full, or_else, kept, kept_all};
+ghost use Rattle.entries.specs.Entries.{Both, both_equal, reresolved_by, nothing, of_types, of_values, of_both, of_macros, is_nothing, is_full, or_else, kept, kept_all, value_entry, macro_entry};
+ghost use Rattle.entries.specs.Merges.{LeftWinsEach, KeepsSeen, KeepsSeenEach};
 
 use crate::visibility::Visibility;
-use hir_def::import::{ImportOrExternCrate, ImportOrGlob, import_or_glob};
+use hir_def::import::{ImportOrExternCrate, ImportOrGlob, import_or_glob, widened};
 use hir_def::lawful_eq::{LawfulEq, same};
 use hir_def::{MacroId, ModuleDefId, ModuleId};
 use nameres::Tree;
@@ -50,13 +51,36 @@ impl<Def: LawfulEq, Import: LawfulEq> Item<Def, Import> {
     }
 }
 
+/// An entry of the values with its def and import as those of any namespace.
+pub fn value_entry(item: ValuesItem) -> TypesItem
+    ensures { result ≡ value_entry item }
+{
+    Item {
+        def: item.def,
+        vis: item.vis,
+        import: widened(item.import),
+    }
+}
+
+/// An entry of the macros with its def as that of any namespace.
+pub fn macro_entry(item: MacrosItem) -> TypesItem
+    ensures { result ≡ macro_entry item }
+{
+    Item {
+        def: ModuleDefId::MacroId(item.def),
+        vis: item.vis,
+        import: item.import,
+    }
+}
+
 /// The entry, where `from` may see it.
 pub fn filter_item<T: Tree, Def: Copy, Import: Copy>(
     item: Option<Item<Def, Import>>,
     tree: &T,
     from: ModuleId,
 ) -> Option<Item<Def, Import>>
-    ensures { result ≡ kept (T.shape tree.now) from item }
+    ensures value { result ≡ kept (T.shape tree.now) from item }
+    ensures seen { KeepsSeen (T.shape tree.now) from item result }
 {
     item.filter(|it| it.vis.sees(tree, from))
 }
@@ -144,7 +168,8 @@ impl PerNs {
 
     /// In each namespace this entry, else the other one.
     pub fn or(self, other: PerNs) -> PerNs
-        ensures { result ≡ or_else self other }
+        ensures value { result ≡ or_else self other }
+        ensures left { LeftWinsEach self other result }
     {
         PerNs {
             types: self.types.or(other.types),
@@ -155,7 +180,8 @@ impl PerNs {
 
     /// The entries that `from` may see.
     pub fn filter_visibility<T: Tree>(self, tree: &T, from: ModuleId) -> PerNs
-        ensures { result ≡ kept_all (T.shape tree.now) from self }
+        ensures value { result ≡ kept_all (T.shape tree.now) from self }
+        ensures seen { KeepsSeenEach (T.shape tree.now) from self result }
     {
         PerNs {
             types: filter_item(self.types, tree, from),

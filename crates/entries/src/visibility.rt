@@ -1,6 +1,6 @@
 // Who may see an item.
 ghost use Rattle.std.specs.Prelude.{◌≡◌, true, IfOk, Decides};
-ghost use Rattle.entries.specs.Visibilities.{inside, settled, visible, named, asked, Sees, Apart};
+ghost use Rattle.entries.specs.Visibilities.{inside, settled, visible, named, asked, Settles, Sees, Apart};
 
 use hir_def::fault::TreeFault;
 use hir_def::{CrateId, ModuleId};
@@ -25,7 +25,8 @@ pub enum Visibility {
 
 /// `m`, or the first module outward that is no block root.
 pub fn leave_blocks<T: Tree>(tree: &T, m: ModuleId) -> ModuleId
-    ensures { result ≡ settled (T.shape tree.now) m }
+    ensures value { result ≡ settled (T.shape tree.now) m }
+    ensures means { Settles (T.shape tree.now) m result }
 {
     let mut here = m;
     while let Some(outside) = block_exit(tree, here) {
@@ -64,7 +65,8 @@ impl Visibility {
 
     /// Whether `from` may see what has this visibility. At numbers that do not exist, by what the tree tells of them.
     pub fn sees<T: Tree>(self, tree: &T, from: ModuleId) -> bool
-        ensures { result ≡ visible (T.shape tree.now) from self }
+        ensures value { result ≡ visible (T.shape tree.now) from self }
+        ensures means { Decides result (Sees (T.shape tree.now) from self) }
     {
         match self {
             Visibility::Module(m, _) => is_inside(tree, from, leave_blocks(tree, m)),

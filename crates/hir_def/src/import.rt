@@ -1,6 +1,6 @@
 // What brought an entry into a module's scope.
 ghost use Rattle.std.specs.Prelude.{◌≡◌};
-ghost use Rattle.hir_def.specs.Imports.{narrowed};
+ghost use Rattle.hir_def.specs.Imports.{narrowed, widened, Narrows};
 
 use crate::{ExternCrateId, GlobId, ImportId};
 
@@ -19,13 +19,26 @@ pub enum ImportOrGlob {
 }
 
 /// The import as an entry of the values keeps it.
+#[tactic(auto, using(crate::proofs::Narrowing::narrows))]
 pub fn import_or_glob(import: Option<ImportOrExternCrate>) -> Option<ImportOrGlob>
-    ensures { result ≡ narrowed import }
+    ensures value { result ≡ narrowed import }
+    ensures keeps { Narrows import result }
 {
     match import {
         Some(ImportOrExternCrate::Glob(g)) => Some(ImportOrGlob::Glob(g)),
         Some(ImportOrExternCrate::Import(i)) => Some(ImportOrGlob::Import(i)),
         Some(ImportOrExternCrate::ExternCrate(_)) => None,
+        None => None,
+    }
+}
+
+/// The import as an entry of any namespace keeps it.
+pub fn widened(import: Option<ImportOrGlob>) -> Option<ImportOrExternCrate>
+    ensures { result ≡ widened import }
+{
+    match import {
+        Some(ImportOrGlob::Glob(g)) => Some(ImportOrExternCrate::Glob(g)),
+        Some(ImportOrGlob::Import(i)) => Some(ImportOrExternCrate::Import(i)),
         None => None,
     }
 }

@@ -101,3 +101,14 @@ around_of t None (Some b) = Some (t.outside_of b)
 
 abbrev pub around : Shape → ModuleId → Option ModuleId
 around t m = around_of t (t.parent_of m) (t.block_of m)
+
+-- m is the root of a block that stands in n
+pub record LeavesBlock (t : Shape) (m n : ModuleId) : Type 0 where
+  pub block : BlockId
+  pub root : TopOfBlock t block m
+  pub outside : n ≡ t.outside_of block
+
+-- m is declared in n, or is the root of a block that stands in n
+pub data StandsIn (t : Shape) (m n : ModuleId) : Type 0 where
+  declared : t.parent_of m ≡ Some n → StandsIn t m n
+  leaves : LeavesBlock t m n → StandsIn t m n

@@ -5,9 +5,9 @@
 // `DefMap`. There `DefMap`, `BlockInfo` and `CrateRootModuleId` of nameres.rs have what `Tree` tells here.
 #![tactic(auto)]
 
-ghost use Rattle.std.specs.Prelude.{◌≡◌, ℕ};
+ghost use Rattle.std.specs.Prelude.{◌≡◌, ℕ, ◌↔◌, Some};
 ghost use Rattle.hir_def.specs.declared.ModuleId.{ModuleId};
-ghost use Rattle.nameres.specs.Shapes.{Shape, Rules, block_exit, around};
+ghost use Rattle.nameres.specs.Shapes.{Shape, Rules, block_exit, around, LeavesBlock, StandsIn};
 
 pub mod tree_rows;
 pub mod tree_table;
@@ -64,7 +64,8 @@ pub trait Tree {
 
 /// The module that `m`'s block stands in, where `m` is the root of a block.
 pub fn block_exit<T: Tree>(tree: &T, m: ModuleId) -> Option<ModuleId>
-    ensures { result ≡ block_exit (T.shape tree.now) m }
+    ensures value { result ≡ block_exit (T.shape tree.now) m }
+    ensures means { (n : ModuleId) → (result ≡ Some n) ↔ LeavesBlock (T.shape tree.now) m n }
 {
     if tree.parent(m).is_some() {
         return None;
@@ -74,7 +75,8 @@ pub fn block_exit<T: Tree>(tree: &T, m: ModuleId) -> Option<ModuleId>
 
 /// The module around `m`: its parent, or for a block's root the module that the block stands in.
 pub fn containing_module<T: Tree>(tree: &T, m: ModuleId) -> Option<ModuleId>
-    ensures { result ≡ around (T.shape tree.now) m }
+    ensures value { result ≡ around (T.shape tree.now) m }
+    ensures means { (n : ModuleId) → (result ≡ Some n) ↔ StandsIn (T.shape tree.now) m n }
 {
     match tree.parent(m) {
         Some(p) => Some(p),

@@ -4,14 +4,14 @@ ghost use Rattle.path_resolution.specs.Answers.{no_flags, empty, merged, larger,
 
 use entries::per_ns::PerNs;
 
-/// Whether the answer stays as it is when more items come.
+/// No where a name is left and there is no type to ask it of, else Yes. Either can change when more is delivered.
 #[derive(Clone, Copy, PartialEq, Eq, Hash, Debug)]
 pub enum ReachedFixedPoint {
     Yes,
     No,
 }
 
-/// What the names before the last passed.
+/// What the names passed on the way.
 #[derive(Clone, Copy, PartialEq, Eq, Hash, Debug)]
 pub struct ResolvePathResultPrefixInfo {
     /// A further name was asked in another crate.

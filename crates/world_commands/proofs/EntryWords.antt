@@ -10,7 +10,8 @@ use Rattle.entries.specs.declared.visibility.Visibility.{Visibility}
 use Rattle.entries.specs.declared.visibility.Visibility.TheVariants.{Module, PubCrate, Public}
 use Rattle.entries.specs.declared.visibility.VisibilityExplicitness.TheVariants.{Explicit, Implicit}
 use Rattle.item_scope.specs.Views.{Types}
-use Rattle.world_commands.specs.EntryTexts.{def_kind, def_number, visibility_text, import_text, entry_text, macro_entry}
+use Rattle.world_commands.specs.EntryTexts.{def_kind, def_number, visibility_text, import_text, entry_text}
+use Rattle.entries.specs.Entries.{macro_entry}
 use Rattle.source_text.specs.Words.{lacks}
 use Rattle.world_commands.specs.Words.{ReadAs, IsDef, IsVisibility, FitsVisibility, IsImport, IsEntry, IsTypes, IsMacros}
 use Rattle.source_text.proofs.Cuts.{one_cut, lacks_not}

@@ -6,14 +6,13 @@ use Rattle.hir_def.specs.declared.ModuleDefId.{ModuleDefId}
 use Rattle.hir_def.specs.declared.ModuleDefId.TheVariants as def
 use Rattle.hir_def.specs.declared.import.ImportOrExternCrate.{ImportOrExternCrate}
 use Rattle.hir_def.specs.declared.import.ImportOrExternCrate.TheVariants as wide
-use Rattle.hir_def.specs.declared.import.ImportOrGlob.{ImportOrGlob}
-use Rattle.hir_def.specs.declared.import.ImportOrGlob.TheVariants as narrow
 use Rattle.hir_def.specs.Builtins.{name_of}
 use Rattle.entries.specs.declared.per_ns.PerNs.{PerNs}
+use Rattle.entries.specs.Entries.{value_entry, macro_entry}
 use Rattle.entries.specs.declared.visibility.Visibility.{Visibility}
 use Rattle.entries.specs.declared.visibility.Visibility.TheVariants.{Module, PubCrate, Public}
 use Rattle.entries.specs.declared.visibility.VisibilityExplicitness.TheVariants.{Explicit, Implicit}
-use Rattle.item_scope.specs.Views.{Types, Values, Macros}
+use Rattle.item_scope.specs.Views.{Types}
 
 abbrev pub def_kind : ModuleDefId → List ℕ
 def_kind (def.ModuleId m) = codes "mod"
@@ -55,18 +54,6 @@ import_text None = codes "-"
 import_text (Some (wide.Glob g)) = codes "glob:" ++ decimal g.0
 import_text (Some (wide.Import i)) = codes "import:" ++ decimal i.0
 import_text (Some (wide.ExternCrate x)) = codes "extern:" ++ decimal x.0
-
-abbrev pub widened : Option ImportOrGlob → Option ImportOrExternCrate
-widened None = None
-widened (Some (narrow.Glob g)) = Some (wide.Glob g)
-widened (Some (narrow.Import i)) = Some (wide.Import i)
-
--- entries of the values and the macros are written as those of the types
-abbrev pub value_entry : Values → Types
-value_entry it = record { def = it.def; vis = it.vis; import = widened it.import }
-
-abbrev pub macro_entry : Macros → Types
-macro_entry it = record { def = def.MacroId it.def; vis = it.vis; import = it.import }
 
 abbrev pub entry_text : Option Types → List ℕ
 entry_text None = codes "-"

@@ -17,7 +17,8 @@ use Rattle.item_scope.specs.declared.index_data.CallStyles.{CallStyles}
 use Rattle.item_scope.specs.declared.index_data.DefMapId.{DefMapId}
 use Rattle.item_scope.specs.declared.index_data.DefMapId.TheVariants.{Block, Crate}
 use Rattle.item_scope.specs.Views.{Types, Values, Macros}
-use Rattle.world_commands.specs.EntryTexts.{def_kind, def_number, visibility_text, import_text, entry_text, macro_entry}
+use Rattle.world_commands.specs.EntryTexts.{def_kind, def_number, visibility_text, import_text, entry_text}
+use Rattle.entries.specs.Entries.{macro_entry}
 
 -- what a word is read as: the value that it says, if it says one
 abbrev pub ReadAs : {A B : Type 0} → (A → B → Type 0) → B → Option A → Type 0

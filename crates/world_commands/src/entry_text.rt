@@ -1,11 +1,11 @@
 // Entries as words of a line.
 ghost use Rattle.std.specs.Prelude.{◌≡◌, Some};
 ghost use Rattle.std.specs.Option.{option_map};
-ghost use Rattle.world_commands.specs.EntryTexts.{def_kind, def_number, visibility_text, import_text, widened, value_entry, macro_entry, entry_text, entries_text};
+ghost use Rattle.world_commands.specs.EntryTexts.{def_kind, def_number, visibility_text, import_text, entry_text, entries_text};
 
-use entries::per_ns::{Item, MacrosItem, PerNs, TypesItem, ValuesItem};
+use entries::per_ns::{PerNs, TypesItem, macro_entry, value_entry};
 use entries::visibility::{Visibility, VisibilityExplicitness};
-use hir_def::import::{ImportOrExternCrate, ImportOrGlob};
+use hir_def::import::ImportOrExternCrate;
 use hir_def::{AdtId, ModuleDefId};
 use std::fmt;
 
@@ -58,36 +58,6 @@ fn def_number(def: ModuleDefId) -> u32
         ModuleDefId::BuiltinType(ty) => ty.as_name().0,
         ModuleDefId::MacroId(id) => id.0,
     }
-}
-
-fn widened(import: Option<ImportOrGlob>) -> Option<ImportOrExternCrate>
-    ensures { result ≡ widened import }
-{
-    match import {
-        None => None,
-        Some(ImportOrGlob::Glob(id)) => Some(ImportOrExternCrate::Glob(id)),
-        Some(ImportOrGlob::Import(id)) => Some(ImportOrExternCrate::Import(id)),
-    }
-}
-
-fn value_entry(item: Option<ValuesItem>) -> EntryText
-    ensures { result.0 ≡ option_map value_entry item }
-{
-    EntryText(item.map(|item| Item {
-        def: item.def,
-        vis: item.vis,
-        import: widened(item.import),
-    }))
-}
-
-fn macro_entry(item: Option<MacrosItem>) -> EntryText
-    ensures { result.0 ≡ option_map macro_entry item }
-{
-    EntryText(item.map(|item| Item {
-        def: ModuleDefId::MacroId(item.def),
-        vis: item.vis,
-        import: item.import,
-    }))
 }
 
 impl fmt::Display for VisibilityText {
@@ -156,8 +126,8 @@ impl fmt::Display for EntriesText {
 
     fn fmt<W: fmt::Write>(&self, f: &mut fmt::Formatter<W>) -> fmt::Result {
         let types = EntryText(self.0.types);
-        let values = value_entry(self.0.values);
-        let macros = macro_entry(self.0.macros);
+        let values = EntryText(self.0.values.map(value_entry));
+        let macros = EntryText(self.0.macros.map(macro_entry));
         write!(f, "{types} {values} {macros}")
     }
 }

@@ -2,7 +2,7 @@
 ghost use Rattle.std.specs.Prelude.{◌≡◌, ◌≢◌, MatchOption, map};
 ghost use Rattle.hir_def.specs.declared.MacroId.{MacroId};
 ghost use Rattle.hir_def.specs.declared.ModuleDefId.TheVariants as def;
-ghost use Rattle.world_commands.specs.EntryTexts.{macro_entry};
+ghost use Rattle.entries.specs.Entries.{macro_entry};
 ghost use Rattle.world_commands.specs.Words.{ReadAs, IsDefOf, IsDef, IsImport, IsEntry, IsTypes, IsValues, IsMacros, value_of};
 ghost use Rattle.world_commands.specs.Commands.{IsPlace, IsEntries, IsDelivery};
 

@@ -7,7 +7,7 @@ returns-then-eq g c = sym (inside-here _ _ _ (sym c.if-eq.ensures)) ∙ c.loop-t
 
 pub loop-target-preserved : goal.loop-target-preserved
 loop-target-preserved g c =
-    inside-up _ _ (g.met.T.Tree.ruled c.args.tree.now) _ _ _ (sym c.if-eq.ensures) c.in-Some.ensures ∙ c.loop-target.invariant
+    inside-up _ _ (g.met.T.Tree.ruled c.args.tree.now) _ _ _ (sym c.if-eq.ensures) c.in-Some.ensures.value ∙ c.loop-target.invariant
 
 pub returns-in-None : goal.returns-in-None
-returns-in-None g c = sym (inside-top _ _ _ (sym c.if-eq.ensures) c.in-None.ensures) ∙ c.loop-target.invariant
+returns-in-None g c = sym (inside-top _ _ _ (sym c.if-eq.ensures) c.in-None.ensures.value) ∙ c.loop-target.invariant
