@@ -1,4 +1,9 @@
 // What the rows of an index's tables are found by. A map's prelude module is found by the map.
+//
+// Equal keys are one and the same, which is the law of `LawfulEq`: a key finds its own row and no other.
+ghost use Rattle.std.proofs.Common.{rules};
+
+use hir_def::lawful_eq::LawfulEq;
 use hir_def::{CrateId, EnumId, ModuleId, Name};
 use item_scope::index_data::DefMapId;
 
@@ -28,4 +33,20 @@ pub struct ModuleName {
 pub struct EnumName {
     pub of: EnumId,
     pub name: Name,
+}
+
+impl LawfulEq for CrateName {
+    ghost eq_is_identity = { Prim.search rules };
+}
+
+impl LawfulEq for MapName {
+    ghost eq_is_identity = { Prim.search rules };
+}
+
+impl LawfulEq for ModuleName {
+    ghost eq_is_identity = { Prim.search rules };
+}
+
+impl LawfulEq for EnumName {
+    ghost eq_is_identity = { Prim.search rules };
 }

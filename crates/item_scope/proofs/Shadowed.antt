@@ -1,5 +1,5 @@
 -- The four steps shadow as the Reference says.
-use Rattle.std.proofs.Common.{◌≡◌, zero, suc, Bool, true, false, if◌then◌else◌, not, ◌&&◌, ◌⊎◌, ◌↔◌, List, [], ◌∷◌, sym, refl, subst, inl, inr, arith, ◌∙◌}
+use Rattle.std.proofs.Common.{◌≡◌, zero, suc, Bool, true, false, if◌then◌else◌, not, ◌&&◌, ◌⊎◌, ◌↔◌, List, [], ◌∷◌, find, Some, sym, refl, ap, subst, inl, inr, arith, ◌∙◌}
 use Rattle.std.specs.List.{Any, Contains}
 use Rattle.std.proofs.lemmas.Bool.{false≢true}
 use Rattle.item_scope.specs.declared.place.Place.{Place}
@@ -56,6 +56,15 @@ module _ {T : Type 0} where
   holder-at (ByName o) n true r e h = inl h
   holder-at (ByName o) n false true e h = inr (cc, refl)
   holder-at (ByName o) n false false e h = inl h
+
+  glob_holder-at : (p : Place T) (n : T) (glob r : Bool) (e : T) → placed p n glob r ≡ ByGlob e → (p ≡ ByGlob e) ⊎ ((p ≡ Empty) × (n ≡ e) × (glob ≡ true))
+  glob_holder-at Empty n true r e h = inr (refl, cc, refl)
+  glob_holder-at Empty n false r e h = absurd (cc)
+  glob_holder-at (ByGlob o) n true r e h = inl h
+  glob_holder-at (ByGlob o) n false r e h = absurd (cc)
+  glob_holder-at (ByName o) n true r e h = absurd (cc)
+  glob_holder-at (ByName o) n false true e h = absurd (cc)
+  glob_holder-at (ByName o) n false false e h = absurd (cc)
 
   -- a place that is held is held by a glob or by name
   globbed-at : (p : Place T) → (is_by_glob p ≡ true) ↔ ((is_empty p ≡ false) × (is_by_name p ≡ false))
@@ -117,6 +126,21 @@ module _ {T : Type 0} (t : Tests T) where
         | inr b ↦ inr (contains-more n ns e b.0, b.1)
       ]
 
+  first : (n e : T) (ns : List T) → n ≡ e → t.glob n ≡ true → find t.glob (n ∷ ns) ≡ Some e
+  first n e ns h g = rw g (ap Some h)
+
+  glob_holder : (p : Place T) (ns : List T) (e : T) → replayed t p ns ≡ ByGlob e → (p ≡ ByGlob e) ⊎ ((p ≡ Empty) × (find t.glob ns ≡ Some e))
+  glob_holder p [] e h = inl h
+  glob_holder p (n ∷ ns) e h =
+      elim (glob_holder (stepped t p n).place ns e h) [
+        | inl q ↦ elim (glob_holder-at p n (t.glob n) (again p n) e (sym (placed-so p n) ∙ q)) [
+          | inl a ↦ inl a
+          | inr b ↦ inr (b.0, first n e ns b.1 b.2)
+        ]
+        -- no place is empty after a step
+        | inr b ↦ absurd (false≢true (sym (filled p n) ∙ ap is_empty b.0))
+      ]
+
   pub shadows : (p : Place T) (ns : List T) → Shadows t.glob p ns (replayed t p ns)
   shadows p ns = record {
     named = named p ns;
@@ -125,4 +149,5 @@ module _ {T : Type 0} (t : Tests T) where
       λ s. (globbed-at (replayed t p ns)).1 ((empty-so p ns).1 s.0, s.1),
     );
     holder = holder p ns;
+    glob_holder = glob_holder p ns;
   }

@@ -52,7 +52,7 @@ abbrev pub arrived : {T : Type 0} → Tests T → Places T → ModuleId → Name
 arrived t f m n None = f
 arrived t f m n (Some e) = λ a b. if a.0 == m.0 && b.0 == n.0 then (stepped t (f a b) e).place else f a b
 
--- whether the entry holds the place then
+-- whether the entry is stored there
 abbrev pub changed : {T : Type 0} → Tests T → Places T → ModuleId → Name → Option T → Bool
 changed t f m n None = false
 changed t f m n (Some e) = takes t (f m n) e

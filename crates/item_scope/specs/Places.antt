@@ -40,7 +40,7 @@ tests same_def glob same_import = record {
   reresolved = λ old new. reresolved_by same_def same_import old new.def new.import;
 }
 
--- whether the entry holds the place when it has come
+-- whether the entry is stored there
 abbrev pub takes : {T : Type 0} → Tests T → Place T → T → Bool
 takes t Empty new = true
 takes t (ByGlob old) new = not (t.glob new)

@@ -1,4 +1,7 @@
 // What an index tells beside its tree and its places.
+ghost use Rattle.std.proofs.Common.{rules};
+
+use hir_def::lawful_eq::LawfulEq;
 use hir_def::{BlockId, CrateId, EnumVariantId, ExternCrateId, MacroId, ModuleId};
 
 /// The map that a module is in: its block's, or its crate's where it is in no block.
@@ -8,8 +11,13 @@ pub enum DefMapId {
     Crate(CrateId),
 }
 
-/// What a name means in the extern prelude of a crate: another crate's root, and the `extern crate` item that brought
-/// it, if one did.
+// A law: equal maps are one and the same.
+impl LawfulEq for DefMapId {
+    ghost eq_is_identity = { Prim.search rules };
+}
+
+/// What a name means in the extern prelude of a crate: a module, in Rust another crate's root, and the `extern crate` item
+/// that brought it, if one did.
 #[derive(Clone, Copy, PartialEq, Eq, Debug)]
 pub struct ExternPrelude {
     pub module: ModuleId,

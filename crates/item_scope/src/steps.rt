@@ -36,7 +36,7 @@ impl ImportKind for ImportOrGlob {
     }
 }
 
-/// A place after an entry came, and whether the entry holds it now.
+/// A place after an entry came, and whether that entry was stored there.
 #[derive(Clone, Copy, PartialEq, Eq, Debug)]
 pub struct Stepped<T> {
     pub place: Place<T>,
@@ -50,7 +50,7 @@ pub fn is_by_glob<Def: Copy, Import: ImportKind>(entry: Item<Def, Import>) -> bo
     entry.import.is_some_and(|import| import.is_glob())
 }
 
-// Whether the entry will hold the place.
+// Whether the entry is stored there.
 fn takes<Def: LawfulEq, Import: ImportKind>(
     place: Place<Item<Def, Import>>,
     new: Item<Def, Import>,
@@ -77,7 +77,7 @@ pub fn held_by<Def: LawfulEq, Import: ImportKind>(
     }
 }
 
-/// The place when the entry has come, and whether that entry holds it now.
+/// The place when the entry has come, and whether that entry was stored there.
 pub fn step<Def: LawfulEq, Import: ImportKind>(
     place: Place<Item<Def, Import>>,
     new: Item<Def, Import>,

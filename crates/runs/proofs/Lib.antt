@@ -3,6 +3,7 @@ pub mod Laws
 pub mod Made
 pub mod Ordered
 pub mod Placed
+pub mod Shadowed
 pub mod Sighted
 pub mod Small
 pub mod Unseen

@@ -29,7 +29,7 @@ module _ {D M : Type 0} (sp : Space D M) (arrives : (v : View) (d : Delivery) �
   told-at v (Ask q path r) m n = refl
 
   -- a place after a run is what it took makes of it
-  after-at : (v : View) (cs : List Call) (m : ModuleId) (n : Name) → sp.places (told_after v cs) m n ≡ replayed sp.tests (sp.places v m n) (taken sp m n cs)
+  pub after-at : (v : View) (cs : List Call) (m : ModuleId) (n : Name) → sp.places (told_after v cs) m n ≡ replayed sp.tests (sp.places v m n) (taken sp m n cs)
   after-at v [] m n = refl
   after-at v (c ∷ cs) m n =
       after-at (told v c) cs m n

@@ -1,6 +1,7 @@
 // Calls of an index, made one by one.
 ghost use Rattle.std.specs.Prelude.{◌≡◌, map};
 ghost use Rattle.runs.specs.Runs.{state, Did, Ran, unmade, told_after};
+ghost use Rattle.runs.specs.Shadowed.{ShadowsGlobs};
 
 use hir_def::fault::{IndexFault, PathFault};
 use item_scope::delivery::Delivery;
@@ -34,10 +35,12 @@ fn make<'a, I: Recipient>(index: &mut I, call: Call<'a>) -> Call<'a>
 }
 
 /// Makes the calls in their order, and writes beside each what came of it.
-#[tactic(auto, using(crate::proofs::Made::ran_none, crate::proofs::Made::ran_on, crate::proofs::Made::unmade_set, crate::proofs::Made::ran_told, std::proofs::lemmas::List::take_all))]
+#[tactic(auto, using(crate::proofs::Made::ran_none, crate::proofs::Made::ran_on, crate::proofs::Made::unmade_set, crate::proofs::Made::ran_told, crate::proofs::Shadowed::ran_shadows, std::proofs::lemmas::List::take_all))]
 pub fn run<I: Recipient>(index: &mut I, calls: &mut [Call<'_>])
     ensures ran { Ran (state (I.view index.old) (I.left index.old)) calls.new (state (I.view index.new) (I.left index.new)) }
     ensures after { I.view index.new ≡ told_after (I.view index.old) calls.new }
+    // At each place items and named imports shadow what globs brought.
+    ensures shadows { ShadowsGlobs (I.view index.old) calls.new (I.view index.new) }
     ensures same { map unmade calls.new ≡ map unmade calls.old }
 {
     for call in calls.iter_mut() {

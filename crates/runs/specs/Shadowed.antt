@@ -1,0 +1,13 @@
+-- Items and named imports shadow globs: what holds each place after a run.
+use Rattle.std.specs.Prelude.{List}
+use Rattle.hir_def.specs.declared.ModuleId.{ModuleId}
+use Rattle.hir_def.specs.declared.Name.{Name}
+use Rattle.item_scope.specs.Shadowing.{Shadows}
+use Rattle.item_scope.specs.Views.{View}
+use Rattle.runs.specs.declared.calls.Call.{Call}
+use Rattle.runs.specs.Runs.{taken}
+use Rattle.runs.specs.Spaces.{Each}
+
+-- of v, which was told before calls, and w, which is told after them: at each place what came by name shadows what globs brought
+abbrev pub ShadowsGlobs : View → List Call → View → Type 0
+ShadowsGlobs v cs w = Each (λ D M sp. (m : ModuleId) (n : Name) → Shadows sp.tests.glob (sp.places v m n) (taken sp m n cs) (sp.places w m n))
