@@ -1,4 +1,5 @@
 pub mod Fitting
+pub mod Hashed
 pub mod Ledger
 pub mod RowIndexes
 pub mod Spaces

@@ -19,7 +19,7 @@ use Rattle.indexes.specs.Told.{key, place_of, places_of, view_of}
 pub record Storing (K : Type 0) : Type 0 where
   -- the entries that the used rows hold for a place
   pub came : List (Row K Entry) → PlaceKey → List Entry
-  -- the used rows when an entry has come to a place, by whether it holds the place then
+  -- the used rows when an entry has come to a place, by whether it is stored there
   pub stored : List (Row K Entry) → PlaceKey → Bool → Entry → List (Row K Entry)
   -- whether each entry takes a row of its own, and not the first of its place alone
   pub each : Bool
@@ -84,7 +84,7 @@ pub record Stores {K : Type 0} (s : Storing K) (before : Contents K Entry) (d : 
   -- no row comes or goes
   pub all : length after.entries + length after.free ≡ length before.entries + length before.free
 
--- the same of one entry, if there is one, that comes to a place, and whether it holds the place then
+-- the same of one entry, if there is one, that comes to a place, and whether it is stored there
 pub record Comes {K T : Type 0} (s : Storing K) (space : Space T) (before : Contents K Entry) (m : ModuleId) (n : Name) (e : Option T) (holds : Bool) (after : Contents K Entry) : Type 0 where
   pub answers : holds ≡ changed space.tests (told_of s space before.entries) m n e
   pub entries : after.entries ≡ come s space before.entries m n e

@@ -29,7 +29,7 @@ pub trait PlaceRows: Drop {
     fn place<T: Namespaced>(&self, at: ModuleId, name: Name) -> Place<T>
         ensures { result ≡ told_of storing T.space (contents self.now).entries at name };
 
-    /// Stores an entry that comes to a place. Whether it holds the place then.
+    /// An entry comes to a place. Whether it is stored there.
     fn put<T: Namespaced>(&mut self, at: ModuleId, name: Name, entry: T) -> bool
         requires { 0 < length (Self.contents self.old).free }
         ensures { let before = Self.contents self.old in
@@ -58,7 +58,7 @@ fn arrive<R: PlaceRows, T: Namespaced>(
     }
 }
 
-/// Stores the entries of a delivery, types, values and macros in turn. Whether any of them holds its place then.
+/// The entries of a delivery come to their places, types, values and macros in turn. Whether any of them is stored there.
 pub(crate) fn arrive_all<R: PlaceRows>(rows: &mut R, delivery: &Delivery) -> bool
     requires { filled delivery.now ≤ length (R.contents rows.old).free }
     ensures told { TellsDelivered R.storing (R.contents rows.old) delivery.now (R.contents rows.new) }

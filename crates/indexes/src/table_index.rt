@@ -48,6 +48,8 @@ impl<'a, S: BuildHasher + Drop> PlaceRows for TableRows<'a, S> {
         self.table.room()
     }
 
+    // Inlined, so that the three places of a name are looked up with one hash.
+    #[inline(always)]
     fn place<T: Namespaced>(&self, at: ModuleId, name: Name) -> Place<T> {
         self.table
             .get(place_key::<T>(at, name))

@@ -8,6 +8,7 @@ use crate::row::Row;
 use std::hash::{BuildHasher, Hash};
 
 // By a multiplication in place of a division.
+#[inline(always)]
 #[tactic(auto, using(crate::proofs::Buckets::bucket_of_lt), unfolding(crate::specs::Hashes::key_hash, crate::specs::Chains::bucket_of))]
 pub(crate) fn bucket_of<K: Copy + Hash, S: BuildHasher>(
     hash_builder: &S,
@@ -23,6 +24,7 @@ pub(crate) fn bucket_of<K: Copy + Hash, S: BuildHasher>(
 }
 
 /// The row of the key, among those that are used.
+#[inline(always)]
 #[tactic(auto, using(crate::proofs::Walks::walk, crate::proofs::Finds::find_tells))]
 pub(crate) fn row_of<K: Copy + Hash, V: Copy, S: BuildHasher>(
     rows: &[Row<K, V>],

@@ -8,6 +8,9 @@ use std::alloc::{AllocError, Allocator, Global};
 use std::hash::BuildHasher;
 use std::marker::Model;
 
+// Most buckets are empty then, and a search for a key that is not there mostly ends at a head and reads no row.
+const BUCKETS_PER_ROW: usize = 4;
+
 /// No row is free for a new key.
 #[derive(Clone, Copy, Debug, PartialEq, Eq)]
 pub struct Full;
@@ -59,7 +62,7 @@ impl<R: Rows, S: BuildHasher + Drop, A: Allocator + Copy> Table<R, S, A> {
         let rows = rows.truncated(u32::MAX as usize);
         let count = rows.as_slice().len();
         let links = vec![in alloc; 0; count]?;
-        let heads = vec![in alloc; 0; count]?;
+        let heads = vec![in alloc; 0; count * BUCKETS_PER_ROW]?;
         Ok(Table {
             rows,
             links,
@@ -92,6 +95,7 @@ impl<R: Rows, S: BuildHasher, A: Allocator> Table<R, S, A> {
         self.rows.as_slice().len() - self.used
     }
 
+    #[inline(always)]
     fn position(&self, key: R::Key) -> Option<usize>
         ensures index { result ≡ position (λ e. R.Key.eq e.key key) self.now.entries }
         ensures there { IsSome result ↔ IsSome (find R.Key.eq self.now.entries key) }
@@ -102,7 +106,9 @@ impl<R: Rows, S: BuildHasher, A: Allocator> Table<R, S, A> {
         row_of(rows, links, heads, self.used, &self.hash_builder, key)
     }
 
+    // Inlined, so that searches for keys with one hash, one after the other, hash once and read the head once.
     /// The value under the key, if the key is there.
+    #[inline(always)]
     #[tactic(auto, using(crate::proofs::Finds::find_tells))]
     pub fn get(&self, key: R::Key) -> Option<R::Value>
         ensures { result ≡ find R.Key.eq self.now.entries key }

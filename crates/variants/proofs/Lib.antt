@@ -1,3 +1,4 @@
 pub mod Rows
+pub mod Tags
 pub mod Told
 pub mod Taken

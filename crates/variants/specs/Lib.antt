@@ -1,3 +1,4 @@
 pub mod Own
 pub mod Spaces
+pub mod Tags
 pub mod Variants

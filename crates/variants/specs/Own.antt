@@ -39,7 +39,7 @@ module _ {T : Type 0} (s : Space T) where
   came rows m n p None = rows
   came rows m n p (Some e) = put rows m n (stepped s.tests p e).place
 
-  -- whether the entry holds the place then
+  -- whether the entry is stored there
   abbrev pub changed_at : Place T → Option T → Bool
   changed_at p None = false
   changed_at p (Some e) = takes s.tests p e
@@ -66,7 +66,7 @@ came_all t v x rows d =
     let e = brought d in
     came macro_space (came value_space (came type_space rows m n t e.types) m n v e.values) m n x e.macros
 
--- whether any of the entries holds its place then
+-- whether any of the entries is stored in its place
 abbrev pub any_changed_at : Place Types → Place Values → Place Macros → Delivery → Bool
 any_changed_at t v x d = changed_at type_space t (brought d).types || (changed_at value_space v (brought d).values || changed_at macro_space x (brought d).macros)
 

@@ -1,7 +1,9 @@
-// The places that a variant has of its own: 64 rows, each of which is free or holds a place.
-ghost use Rattle.std.specs.Prelude.{◌≡◌, ◌+◌, ◌-◌, ◌≤◌, ◌<◌, [], length, position};
+// The places that a variant has of its own: 64 rows, each of which is free or holds a place. A name's tag tells the first row
+// that can hold a place of it, so that a name without one is mostly not searched for.
+ghost use Rattle.std.specs.Prelude.{◌≡◌, ◌+◌, ◌-◌, ◌≤◌, ◌<◌, [], length, position, IfSome};
 ghost use Rattle.item_scope.specs.Deliveries.{count_of, filled};
 ghost use Rattle.variants.specs.Own.{is_of, own, put, came, changed_at, came_all, any_changed_at};
+ghost use Rattle.variants.specs.Tags.{tag_of};
 
 use crate::namespaced::Namespaced;
 use entries::per_ns::{MacrosItem, TypesItem, ValuesItem};
@@ -13,6 +15,17 @@ use std::marker::Model;
 
 /// The most places that a variant has of its own.
 pub const MOST_OWN_PLACES: usize = 64;
+
+// How many tags there are.
+const TAGS: usize = 1024;
+
+// What of a name of a module is told apart without a row.
+fn tag(at: ModuleId, name: Name) -> usize
+    ensures value { result ≡ tag_of at name }
+    ensures inside { result < 1024 }
+{
+    (at.0 as usize * 61 + name.0 as usize) % TAGS
+}
 
 /// A place of any namespace.
 #[derive(Clone, Copy)]
@@ -46,22 +59,32 @@ impl OwnPlace {
     }
 }
 
+fn position_in<T: Namespaced>(rows: &[OwnPlace], at: ModuleId, name: Name) -> Option<usize>
+    ensures index { result ≡ position (is_of T.space at name) rows.now }
+    ensures inside { IfSome result (λ index. index < length rows.now) }
+{
+    rows.iter().position(|row| row.is_of::<T>(at, name))
+}
+
 /// Up to 64 places. Contracts see them as the list of the used rows.
 #[derive(Drop)]
 pub struct OwnPlaces {
     rows: [OwnPlace; MOST_OWN_PLACES],
+    // Of each tag a row before which no row has it.
+    firsts: [u8; TAGS],
     used: usize,
 }
 
 impl Model for OwnPlaces {
-    ghost use Rattle.std.specs.Prelude.{◌≡◌, ◌≤◌, List, length, take};
+    ghost use Rattle.std.specs.Prelude.{List, take};
     ghost use Rattle.variants.specs.declared.own_places.OwnPlace.{OwnPlace};
+    ghost use Rattle.variants.specs.Tags.{IsTagged};
 
     ghost Value = { List OwnPlace };
 
     ghost view = { λ o. take o.used o.rows };
 
-    ghost invariant = { λ o. (o.used ≤ 64) × (length o.rows ≡ 64) };
+    ghost invariant = { λ o. IsTagged o.rows o.firsts o.used };
 }
 
 impl OwnPlaces {
@@ -71,6 +94,7 @@ impl OwnPlaces {
     {
         OwnPlaces {
             rows: [FREE; MOST_OWN_PLACES],
+            firsts: [MOST_OWN_PLACES as u8; TAGS],
             used: 0,
         }
     }
@@ -85,9 +109,12 @@ impl OwnPlaces {
     fn position<T: Namespaced>(&self, at: ModuleId, name: Name) -> Option<usize>
         ensures { result ≡ position (is_of T.space at name) self.now }
     {
-        self.rows[..self.used]
-            .iter()
-            .position(|row| row.is_of::<T>(at, name))
+        let first = self.firsts[tag(at, name)] as usize;
+        if first >= self.used {
+            return None;
+        }
+        let further = position_in::<T>(&self.rows[first..self.used], at, name)?;
+        Some(first + further)
     }
 
     /// The name's place in the namespace, if it is one of these.
@@ -115,13 +142,15 @@ impl OwnPlaces {
         match self.position::<T>(at, name) {
             Some(index) => self.rows[index] = row,
             None => {
+                let tag = tag(at, name);
+                self.firsts[tag] = self.firsts[tag].min(self.used as u8);
                 self.rows[self.used] = row;
                 self.used += 1;
             }
         }
     }
 
-    // An entry, if there is one, comes to a place, which is told so before. Whether it holds the place then.
+    // An entry, if there is one, comes to a place, which is told so before. Whether it is stored there.
     fn arrive<T: Namespaced>(
         &mut self,
         at: ModuleId,
@@ -144,7 +173,7 @@ impl OwnPlaces {
         }
     }
 
-    /// The entries of a delivery come to the name's places, which are told so before. Whether any of them holds its place then.
+    /// The entries of a delivery come to the name's places, which are told so before. Whether any of them is stored there.
     pub(crate) fn arrive_all(
         &mut self,
         delivery: &Delivery,

@@ -1,4 +1,4 @@
-use Rattle.std.proofs.Common.{rules, ◌≡◌, length, ap, arith}
+use Rattle.std.proofs.Common.{rules, ◌≡◌, ◌*◌, length, ap, arith}
 use Rattle.std.proofs.lemmas.List.{length-take}
 use Rattle.keyed.specs.Entries.{most_rows}
 use Rattle.keyed.specs.Hashes.{key_hash, key_hash-respects}
@@ -13,7 +13,7 @@ invariant_of-result g c =
     let hash = key_hash g.S.BuildHasher g.S.Hasher.Hasher c.args.hash_builder key.Hash.hash_input in
     let respects = key_hash-respects g.S.BuildHasher g.S.Hasher.Hasher c.args.hash_builder key.Hash.hash_input key.PartialEq.eq g.met.R.Key.Hash.respects_eq in
     let count : length c.as_slice-count.result.now ≡ length rows = ap length c.as_slice-count.ensures in
-    fresh hash key.PartialEq.eq g.met.R.Key.Eq.laws respects rows c.in_ok-links.links.items c.in_ok-heads.heads.items (length c.as_slice-count.result.now)
+    fresh hash key.PartialEq.eq g.met.R.Key.Eq.laws respects rows c.in_ok-links.links.items c.in_ok-heads.heads.items (length c.as_slice-count.result.now * 4)
     (rw c.truncated-rows.ensures (omega (arith, length-take 0xFFFF_FFFF (g.R.Rows.rows c.args.rows))))
     (search rules)
     (λ l. omega arith)
