@@ -1,2 +1,3 @@
 pub mod AllRead
 mod Ran
+pub mod Why

@@ -5,3 +5,4 @@ pub mod Models
 pub mod Paths
 pub mod Piles
 pub mod Surveys
+pub mod Words

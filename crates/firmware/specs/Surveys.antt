@@ -1,5 +1,5 @@
 -- What a file that is taken whole tells.
-use Rattle.std.specs.Prelude.{◌≡◌, ℕ, ◌-◌, ◌^◌, min, length, Ok, Err, Result, vec_items}
+use Rattle.std.specs.Prelude.{◌≡◌, ℕ, ◌-◌, ◌^◌, ◌⊎◌, min, length, List, Some, Ok, Err, Result, vec_items}
 use Rattle.std.specs.declared.hash.Hasher as hasher
 use Rattle.std.specs.declared.hash.BuildHasher as builder
 use Rattle.hir_def.specs.declared.fault.Failure.{Failure}
@@ -11,11 +11,15 @@ use Rattle.index_tables.specs.IndexRows.{IndexRows}
 use Rattle.index_tables.specs.Loading.{LoadsIndex}
 use Rattle.index_tables.specs.LoadedTables.{rows_in}
 use Rattle.index_tables.specs.declared.loaded_tables.LoadedTables.{LoadedTables}
+use Rattle.firmware.specs.declared.complaint.Complaint.{Complaint}
 use Rattle.firmware.specs.declared.reader.Firmware.{Firmware}
 use Rattle.firmware.specs.declared.survey.Survey.{Survey}
 use Rattle.firmware.specs.declared.trouble.Trouble.{Trouble}
 use Rattle.firmware.specs.declared.trouble.Trouble.TheVariants.{Text, Tables}
-use Rattle.firmware.specs.Paths.{AllRead}
+use Rattle.path_text.specs.declared.mod_path.ModPath.{ModPath}
+use Rattle.firmware.specs.Paths.{AllRead, FirstBad}
+use Rattle.firmware.specs.Words.{word_at}
+use Rattle.source_text.specs.declared.words.Word.{Word}
 
 -- the largest number of 32 bits stands for more
 abbrev pub count_of : ℕ → ℕ
@@ -36,20 +40,24 @@ declared_rows f = record {
   styles = vec_items f.tables.styles;
 }
 
+-- a bad row is told at the word that tells it
+abbrev TellsRow : Firmware → Fault → Complaint → Type 0
+TellsRow m f c = (row : ℕ) × ((word : Word) × ((f ≡ Index (BadRow row)) × (word_at m.tables row ≡ Some word) × (c.line ≡ word.line) × (c.column ≡ word.column)))
+
 -- a refusal is told as it is, or a bad row at its statement
-abbrev pub Tells : Fault → Trouble → Type 0
-Tells f (Tables g) = g ≡ f
-Tells f (Text c) = (row : ℕ) × (f ≡ Index (BadRow row))
+abbrev pub Tells : Firmware → Fault → Trouble → Type 0
+Tells m f (Tables g) = g ≡ f
+Tells m f (Text c) = TellsRow m f c
 
--- what is told of a load of these rows that is refused
-abbrev pub Denies : IndexRows → Failure Trouble → Type 0
-Denies rows (Memory e) = Unit {0}
-Denies rows (Refused t) = (f : Fault) × (LoadsIndex rows (Err f) × Tells f t)
+-- what is told of a load of the file's rows that is refused
+abbrev pub Denies : Firmware → Failure Trouble → Type 0
+Denies f (Memory e) = Unit {0}
+Denies f (Refused t) = (why : Fault) × (LoadsIndex (declared_rows f) (Err why) × Tells f why t)
 
--- the tables of these rows, or why they make none
-abbrev pub TablesOf : {S H : Type 0} {build : builder.Ghosts S H} {hash : hasher.Ghosts H} → IndexRows → Result (LoadedTables S H build hash) (Failure Trouble) → Type 0
-TablesOf rows (Ok t) = LoadsIndex rows (Ok tt) × (rows_in t ≡ rows)
-TablesOf rows (Err e) = Denies rows e
+-- the tables of the file's rows, or why they make none
+abbrev pub TablesOf : {S H : Type 0} {build : builder.Ghosts S H} {hash : hasher.Ghosts H} → Firmware → Result (LoadedTables S H build hash) (Failure Trouble) → Type 0
+TablesOf f (Ok t) = LoadsIndex (declared_rows f) (Ok tt) × (rows_in t ≡ declared_rows f)
+TablesOf f (Err e) = Denies f e
 
 -- the tables are those of the file's rows, the names are its own, and each path is read by them
 pub record Takes (f : Firmware) (s : Survey) : Type 0 where
@@ -57,3 +65,12 @@ pub record Takes (f : Firmware) (s : Survey) : Type 0 where
   pub tables : rows_in s.tables ≡ declared_rows f
   pub names : s.list.now ≡ f.list
   pub paths : AllRead f.list (vec_items f.paths) (vec_items s.paths)
+
+-- all paths are read, and the tables are refused
+abbrev pub BadTables : Firmware → Trouble → Type 0
+BadTables f t = ((read : List ModPath) × AllRead f.list (vec_items f.paths) read) × Denies f (Refused t)
+
+-- why a file is not taken: its first bad path, or else what is wrong with its tables
+abbrev pub WhyNot : Firmware → Failure Trouble → Type 0
+WhyNot f (Memory e) = Unit {0}
+WhyNot f (Refused t) = FirstBad f.list (vec_items f.paths) t ⊎ BadTables f t

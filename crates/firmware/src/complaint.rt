@@ -1,4 +1,6 @@
 // What is wrong with a statement or a path of a file, where, and what was expected there.
+ghost use Rattle.std.specs.Prelude.{◌≡◌};
+
 use source_text::words::Word;
 use thiserror::Error;
 
@@ -15,7 +17,10 @@ pub struct Complaint {
 
 impl Complaint {
     /// What is wrong with a word.
-    pub(crate) fn at(word: Word, problem: &'static str, expected: &'static str) -> Complaint {
+    pub(crate) fn at(word: Word, problem: &'static str, expected: &'static str) -> Complaint
+        ensures line { result.line ≡ word.entry.line }
+        ensures column { result.column ≡ word.entry.column }
+    {
         Complaint {
             line: word.line,
             column: word.column,

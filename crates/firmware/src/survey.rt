@@ -1,7 +1,7 @@
 // A file that was read and is taken whole: its tables are loaded and its paths are read.
-ghost use Rattle.std.specs.Prelude.{◌≡◌, IfOk};
+ghost use Rattle.std.specs.Prelude.{◌≡◌, IfOk, IfErr};
 ghost use Rattle.index_tables.specs.IndexRows.{lent_rows};
-ghost use Rattle.firmware.specs.Surveys.{declared_rows, Tells, TablesOf, Takes, count_of};
+ghost use Rattle.firmware.specs.Surveys.{declared_rows, Tells, TablesOf, Takes, WhyNot, count_of};
 
 use crate::complaint::Complaint;
 use crate::path_words::read_paths;
@@ -59,7 +59,7 @@ pub fn tables_of<'f, 't>(firmware: &'f Firmware<'t>) -> IndexTables<'f>
 
 // A bad row is told at its statement, where one tells it.
 fn trouble_of(firmware: &Firmware, fault: Fault) -> Trouble
-    ensures { Tells fault result }
+    ensures { Tells firmware.now fault result }
 {
     match fault {
         Fault::Index(IndexFault::BadRow(row)) => match firmware.tables.word(row) {
@@ -78,7 +78,7 @@ fn load<'f, 't>(
     alloc: Global,
     firmware: &'f Firmware<'t>,
 ) -> Result<LoadedTables<'f, Hashers>, Failure<Trouble>>
-    ensures { TablesOf (declared_rows firmware.entry.now) result }
+    ensures { TablesOf firmware.entry.now result }
 {
     let mut tables = LoadedTables::new(alloc, Hashers::new())?;
     match tables.load(alloc, tables_of(firmware)) {
@@ -90,8 +90,10 @@ fn load<'f, 't>(
 
 impl<'f, 't> Survey<'f, 't> {
     /// Takes what a file declares, or says why not: its paths first, then its tables.
+    #[tactic(auto, using(crate::proofs::Why::bad_path, crate::proofs::Why::bad_tables))]
     pub fn of(alloc: Global, firmware: &'f Firmware<'t>) -> Result<Survey<'f, 't>, Failure<Trouble>>
-        ensures { IfOk result (Takes firmware.entry.now) }
+        ensures taken { IfOk result (Takes firmware.entry.now) }
+        ensures refused { IfErr result (WhyNot firmware.entry.now) }
     {
         let list = &firmware.list;
         let paths = read_paths(alloc, list, firmware.paths.as_slice())?;

@@ -1,5 +1,7 @@
 // The rows of an index's tables, as the statements of a file tell them, each with the word that tells it.
-ghost use Rattle.std.specs.Prelude.{◌≡◌};
+ghost use Rattle.std.specs.Prelude.{◌≡◌, ◌-◌, None, Some, length, vec_items, IfOk, IfErr};
+ghost use Rattle.std.specs.List.{slice_get};
+ghost use Rattle.firmware.specs.Words.{word_at};
 
 use hir_def::{MacroId, ModuleId};
 use index_tables::keys::{CrateName, EnumName, MapName, ModuleName};
@@ -28,6 +30,17 @@ impl<'a, K: Copy, V: Copy> RowsTold<'a, K, V> {
         self.rows.push(Row { key, value })?;
         Ok(())
     }
+
+    // The word at a position, or the position among the words that follow these.
+    fn word(&self, at: usize) -> Result<Word<'a>, usize>
+        ensures found { IfOk result (λ w. slice_get (vec_items self.now.words) at ≡ Some w) }
+        ensures beyond { IfErr result (λ rest. (slice_get (vec_items self.now.words) at ≡ None) × (rest ≡ at - length (vec_items self.now.words))) }
+    {
+        match self.words.get(at) {
+            Some(word) => Ok(*word),
+            None => Err(at.saturating_sub(self.words.len())),
+        }
+    }
 }
 
 /// The tables of an index beside its tree.
@@ -55,21 +68,26 @@ impl<'a> IndexRows<'a> {
 
     /// The word that tells the row of that number, as a load counts them: after the three counts. None for a row of another
     /// table.
-    pub(crate) fn word(&self, row: usize) -> Option<Word<'a>> {
-        let tables = [
-            self.extern_prelude.words.as_slice(),
-            self.macro_use.words.as_slice(),
-            self.preludes.words.as_slice(),
-            self.legacy.words.as_slice(),
-            self.variants.words.as_slice(),
-        ];
-        let mut row = row.checked_sub(3)?;
-        for words in tables {
-            match words.get(row) {
-                Some(word) => return Some(*word),
-                None => row = row.saturating_sub(words.len()),
-            }
-        }
-        None
+    pub(crate) fn word(&self, row: usize) -> Option<Word<'a>>
+        ensures { result ≡ word_at self.now row }
+    {
+        let row = row.checked_sub(3)?;
+        let row = match self.extern_prelude.word(row) {
+            Ok(word) => return Some(word),
+            Err(row) => row,
+        };
+        let row = match self.macro_use.word(row) {
+            Ok(word) => return Some(word),
+            Err(row) => row,
+        };
+        let row = match self.preludes.word(row) {
+            Ok(word) => return Some(word),
+            Err(row) => row,
+        };
+        let row = match self.legacy.word(row) {
+            Ok(word) => return Some(word),
+            Err(row) => row,
+        };
+        self.variants.word(row).ok()
     }
 }

@@ -144,15 +144,13 @@ impl<'a> NameList<'a> {
         ensures ok { OnOk result (self.new ≡ self.old ++ line.now ∷ []) }
         ensures err { OnErr result (self.new ≡ self.old) }
     {
-        if self.lines.len() > u32::MAX as usize {
+        let number = self.lines.len();
+        if number > u32::MAX as usize {
             return Err(AllocError);
         }
-        let number = Name(self.lines.len() as u32);
-        self.lines.push(line)?;
-        if let Err(fault) = number_line(&mut self.numbers, line, number) {
-            self.lines.pop();
-            return Err(fault);
-        }
+        self.lines.reserve(1)?;
+        number_line(&mut self.numbers, line, Name(number as u32))?;
+        self.lines.push_reserved(line);
         Ok(())
     }
 

@@ -1,6 +1,5 @@
 // A path written as text, its names by a name list.
 ghost use Rattle.std.specs.Prelude.{◌≡◌, Bool, ◌++◌, IfOk, IfSome, OnOk, option_map};
-ghost use Rattle.path_text.specs.declared.mod_path.PathKind.TheVariants.{Super};
 ghost use Rattle.path_text.specs.Grammar.{supers, joined_to};
 ghost use Rattle.path_text.specs.Written.{gap, start_text, leads, names_text, after, all_of, written_of, Spells};
 
@@ -18,34 +17,28 @@ fn write_word(out: &mut Vec<u8>, led: bool, word: &[u8]) -> Result<(), AllocErro
     out.extend_from_slice(word)
 }
 
-fn write_supers(out: &mut Vec<u8>, level: u32) -> Result<(), AllocError>
-    ensures { OnOk result (out.new.items ≡ out.old.items ++ joined_to (supers level)) }
+// The word that begins a path of that kind, and how many `super` follow it.
+fn start_of(kind: PathKind) -> (&'static [u8], u32)
+    ensures { result.0.now ++ joined_to (supers result.1) ≡ start_text kind }
 {
-    for _ in 0..level {
-        write_word(out, true, b"super")?;
+    match kind {
+        PathKind::Plain | PathKind::Abs => (b"", 0),
+        PathKind::Crate => (b"crate", 0),
+        PathKind::DollarCrate(_) => (b"$crate", 0),
+        PathKind::Super(0) => (b"self", 0),
+        PathKind::Super(level) => (b"super", level - 1),
     }
-    Ok(())
-}
-
-fn write_level(out: &mut Vec<u8>, level: u32) -> Result<(), AllocError>
-    ensures { OnOk result (out.new.items ≡ out.old.items ++ start_text (Super level)) }
-{
-    if level == 0 {
-        return write_word(out, false, b"self");
-    }
-    write_word(out, false, b"super")?;
-    write_supers(out, level - 1)
 }
 
 fn write_start(out: &mut Vec<u8>, kind: PathKind) -> Result<(), AllocError>
     ensures { OnOk result (out.new.items ≡ out.old.items ++ start_text kind) }
 {
-    match kind {
-        PathKind::Plain | PathKind::Abs => Ok(()),
-        PathKind::Crate => write_word(out, false, b"crate"),
-        PathKind::DollarCrate(_) => write_word(out, false, b"$crate"),
-        PathKind::Super(level) => write_level(out, level),
+    let (word, supers) = start_of(kind);
+    out.extend_from_slice(word)?;
+    for _ in 0..supers {
+        out.extend_from_slice(b"::super")?;
     }
+    Ok(())
 }
 
 fn leads_names(kind: PathKind) -> bool

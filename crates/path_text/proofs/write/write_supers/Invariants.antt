@@ -1,6 +1,0 @@
-use Rattle.std.proofs.Common.{◌≡◌, ◌-◌, ◌++◌, vec_items}
-use Rattle.path_text.specs.Grammar.{supers, joined_to}
-use Rattle.path_text.proofs.write.write_supers.Given as goal
-
-abbrev pub invariant-loop : goal.invariant-loop
-invariant-loop l = vec_items l.initial.out ++ joined_to (supers l.level) ≡ vec_items l.out ++ joined_to (supers (l.level - l.counter))
