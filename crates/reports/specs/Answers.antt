@@ -3,6 +3,8 @@ use Rattle.std.specs.Prelude.{ℕ, Bool, true, false, List, [], ◌++◌, Option
 use Rattle.std.specs.Option.{option_and_then}
 use Rattle.std.specs.List.{slice_get}
 use Rattle.hir_def.specs.declared.Name.{Name}
+use Rattle.hir_def.specs.declared.Namespace.{Namespace}
+use Rattle.hir_def.specs.declared.Namespace.TheVariants as namespace
 use Rattle.path_resolution.specs.declared.answer.ReachedFixedPoint.{ReachedFixedPoint}
 use Rattle.path_resolution.specs.declared.answer.ReachedFixedPoint.TheVariants.{Yes, No}
 use Rattle.path_resolution.specs.declared.answer.ResolvePathResult.{ResolvePathResult}
@@ -15,7 +17,7 @@ use Rattle.path_resolution.specs.declared.question.MacroSubNs.{MacroSubNs}
 use Rattle.path_resolution.specs.declared.question.MacroSubNs.TheVariants.{Bang, Attr}
 use Rattle.paths.specs.Told.{as_text}
 use Rattle.reports.specs.declared.holders.Holder.{Holder}
-use Rattle.reports.specs.Places.{kind_word, told_text}
+use Rattle.reports.specs.Places.{kind_word, told_text, holder_told}
 use Rattle.reports.specs.Shown.{module_text}
 
 abbrev pub mode_word : ResolveMode → List ℕ
@@ -90,6 +92,14 @@ abbrev pub answer_told : List (List ℕ) → List Name → ResolvePathResult →
 answer_told ls path a =
     codes "    status " ++ status_word a.reached_fixedpoint ++ stop_told ls path a.segment_index ++ flags_told a.prefix_info.differing_crate a.prefix_info.enum_variant ++ codes "\n"
 
+abbrev pub entry_told : List (List ℕ) → Namespace → Option Holder → List ℕ
+entry_told names s None = []
+entry_told names s (Some h) = holder_told names s h
+
+abbrev pub entries_told : List (List ℕ) → Option Holder → Option Holder → Option Holder → List ℕ
+entries_told names types values macros =
+    entry_told names namespace.Types types ++ entry_told names namespace.Values values ++ entry_told names namespace.Macros macros
+
 abbrev pub entry_words : Option Holder → List ℕ
 entry_words None = codes "- -"
 entry_words (Some h) = kind_word h.told.def ++ codes " " ++ told_text h.told
@@ -104,3 +114,8 @@ answer_words ls path a =
 abbrev pub answer_line : List (List ℕ) → List (List ℕ) → List Name → Question → ResolvePathResult → Option Holder → Option Holder → Option Holder → List ℕ
 answer_line names ls path q a types values macros =
     codes "answer " ++ question_text names q ++ codes " " ++ answer_words ls path a ++ codes " " ++ entries_words types values macros
+
+-- the same for people: who asks, a line for each entry, and what else is answered
+abbrev pub answer_report : List (List ℕ) → List (List ℕ) → List Name → Question → ResolvePathResult → Option Holder → Option Holder → Option Holder → List ℕ
+answer_report names ls path q a types values macros =
+    codes "    asked from " ++ question_told names q ++ codes "\n" ++ entries_told names types values macros ++ answer_told ls path a

@@ -1,34 +1,18 @@
 -- What holds a place, by the statements of a file.
-use Rattle.std.specs.Prelude.{not, Bool, Some, None, Option}
+use Rattle.std.specs.Prelude.{not, Bool, Option}
 use Rattle.std.specs.Option.{option_map}
 use Rattle.hir_def.specs.declared.ModuleId.{ModuleId}
 use Rattle.hir_def.specs.declared.Name.{Name}
 use Rattle.hir_def.specs.declared.Namespace.{Namespace}
 use Rattle.hir_def.specs.declared.Namespace.TheVariants as namespace
-use Rattle.hir_def.specs.declared.ModuleDefId.TheVariants as def
-use Rattle.hir_def.specs.declared.import.ImportOrExternCrate.{ImportOrExternCrate}
-use Rattle.hir_def.specs.declared.import.ImportOrExternCrate.TheVariants as wide
-use Rattle.hir_def.specs.declared.import.ImportOrGlob.{ImportOrGlob}
-use Rattle.hir_def.specs.declared.import.ImportOrGlob.TheVariants as narrow
 use Rattle.entries.specs.declared.per_ns.PerNs.{PerNs}
+use Rattle.entries.specs.Entries.{value_entry, macro_entry}
 use Rattle.item_scope.specs.Globs.{wide_glob, by_glob}
 use Rattle.item_scope.specs.Places.{holder, is_by_name}
-use Rattle.item_scope.specs.Views.{View, Types, Values, Macros}
+use Rattle.item_scope.specs.Views.{View, Types}
 use Rattle.firmware.specs.declared.definitions.Definitions.{Definitions}
 use Rattle.firmware.specs.Definitions.{definition_of, line_of}
 use Rattle.reports.specs.declared.holders.Holder.{Holder}
-
-abbrev pub widened : Option ImportOrGlob → Option ImportOrExternCrate
-widened None = None
-widened (Some (narrow.Glob g)) = Some (wide.Glob g)
-widened (Some (narrow.Import i)) = Some (wide.Import i)
-
--- entries of the values and the macros are told as those of the types
-abbrev pub value_entry : Values → Types
-value_entry it = record { def = it.def; vis = it.vis; import = widened it.import }
-
-abbrev pub macro_entry : Macros → Types
-macro_entry it = record { def = def.MacroId it.def; vis = it.vis; import = it.import }
 
 abbrev pub holder_of : Definitions → Types → Bool → Holder
 holder_of f it by_name = record {

@@ -1,9 +1,12 @@
 // Writes what a path stands for where it is asked.
+ghost use Rattle.std.specs.Prelude.{OnOk};
+ghost use Rattle.std.specs.Io.KnownBytes.{Appends};
+ghost use Rattle.reports.specs.Written.{answer_text, answer_line_text};
+
 use crate::answer_json::{answer_value, refused_path_value};
-use crate::answers::{AnswerLine, AnswerTold, EntriesWords, QuestionTold};
+use crate::answers::{AnswerLine, AnswerReport, AnswerTold, EntriesWords};
 use crate::holders::entry_holder;
 use crate::json::write_value;
-use crate::places::HolderTold;
 use crate::style::Form;
 use firmware::survey::Survey;
 use firmware::trouble::FaultTold;
@@ -17,8 +20,6 @@ use path_text::mod_path::ModPath;
 use std::alloc::Global;
 use std::io;
 
-const NAMESPACES: [Namespace; 3] = [Namespace::Types, Namespace::Values, Namespace::Macros];
-
 /// For people: who asks, the entry of each namespace, and what else is answered.
 pub fn write_told<W: io::Write>(
     w: &mut W,
@@ -26,27 +27,27 @@ pub fn write_told<W: io::Write>(
     path: &ModPath,
     question: Question,
     answer: ResolvePathResult,
-) -> io::Result<()> {
-    let names = survey.firmware.names.as_slice();
-    let asked = QuestionTold { names, question };
-    write!(w, "    asked from {asked}\n")?;
-    for namespace in NAMESPACES {
-        let entries = &answer.resolved_def;
-        if let Some(holder) = entry_holder(&survey.firmware.definitions, entries, namespace) {
-            let told = HolderTold {
-                names,
-                namespace,
-                holder,
-            };
-            write!(w, "{told}")?;
-        }
-    }
-    let told = AnswerTold {
-        list: survey.list,
-        path: path.names.as_slice(),
-        answer,
-    };
-    write!(w, "{told}")
+) -> io::Result<()>
+    ensures { OnOk result (Appends (W.contents w.old) (W.contents w.new)
+        (answer_text survey.now path.now.names.items question answer)) }
+{
+    let definitions = &survey.firmware.definitions;
+    let found = &answer.resolved_def;
+    let report = AnswerReport(AnswerLine {
+        names: survey.firmware.names.as_slice(),
+        question,
+        told: AnswerTold {
+            list: survey.list,
+            path: path.names.as_slice(),
+            answer,
+        },
+        entries: EntriesWords {
+            types: entry_holder(definitions, found, Namespace::Types),
+            values: entry_holder(definitions, found, Namespace::Values),
+            macros: entry_holder(definitions, found, Namespace::Macros),
+        },
+    });
+    write!(w, "{report}")
 }
 
 /// The same as a line.
@@ -56,9 +57,12 @@ pub fn write_line<W: io::Write>(
     path: &ModPath,
     question: Question,
     answer: ResolvePathResult,
-) -> io::Result<()> {
+) -> io::Result<()>
+    ensures { OnOk result (Appends (W.contents w.old) (W.contents w.new)
+        (answer_line_text survey.now path.now.names.items question answer)) }
+{
     let definitions = &survey.firmware.definitions;
-    let entries = &answer.resolved_def;
+    let found = &answer.resolved_def;
     let line = AnswerLine {
         names: survey.firmware.names.as_slice(),
         question,
@@ -68,9 +72,9 @@ pub fn write_line<W: io::Write>(
             answer,
         },
         entries: EntriesWords {
-            types: entry_holder(definitions, entries, Namespace::Types),
-            values: entry_holder(definitions, entries, Namespace::Values),
-            macros: entry_holder(definitions, entries, Namespace::Macros),
+            types: entry_holder(definitions, found, Namespace::Types),
+            values: entry_holder(definitions, found, Namespace::Values),
+            macros: entry_holder(definitions, found, Namespace::Macros),
         },
     };
     write!(w, "{line}\n")

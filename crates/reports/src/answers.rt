@@ -1,13 +1,13 @@
 // What is written of the answer to a path: for people, and as a line of words for programs.
 ghost use Rattle.std.specs.Prelude.{◌≡◌, Some};
 ghost use Rattle.reports.specs.Shown.{held};
-ghost use Rattle.reports.specs.Answers.{mode_word, shadow_word, macro_word, status_word, flags_word, flags_told, question_text, mode_told, shadow_told, macro_told, question_told, name_text, stop_told, stop_text, entry_words, entries_words, answer_words, answer_told, answer_line};
+ghost use Rattle.reports.specs.Answers.{mode_word, shadow_word, macro_word, status_word, flags_word, flags_told, question_text, mode_told, shadow_told, macro_told, question_told, name_text, stop_told, stop_text, entry_words, entries_words, answer_words, answer_told, answer_line, answer_report, entry_told, entries_told};
 
 use crate::holders::Holder;
 use crate::names::ModuleText;
-use crate::places::{ToldText, kind_word};
+use crate::places::{HolderTold, ToldText, kind_word};
 use bstr::BStr;
-use hir_def::Name;
+use hir_def::{Name, Namespace};
 use path_resolution::answer::{ReachedFixedPoint, ResolvePathResult, ResolvePathResultPrefixInfo};
 use path_resolution::question::{BuiltinShadowMode, MacroSubNs, Question, ResolveMode};
 use path_text::name_list::NameList;
@@ -51,6 +51,15 @@ pub struct EntriesWords<'a> {
     pub macros: Option<Holder<'a>>,
 }
 
+/// The entries of an answer, for people: a line for each that there is.
+#[derive(Clone, Copy, Debug)]
+pub struct EntriesTold<'a> {
+    pub names: &'a [&'a str],
+    pub types: Option<Holder<'a>>,
+    pub values: Option<Holder<'a>>,
+    pub macros: Option<Holder<'a>>,
+}
+
 /// An answer as a line: `answer`, the module that asks, the mode, the shadow mode, the kind of macro, the status, the index of the first
 /// name that was not resolved and that name, the flags, and the entries; `-` for what there is not.
 #[derive(Clone, Copy)]
@@ -60,6 +69,10 @@ pub struct AnswerLine<'a, 'n> {
     pub told: AnswerTold<'a, 'n>,
     pub entries: EntriesWords<'a>,
 }
+
+/// The same for people: who asks, a line for each entry, and what else is answered.
+#[derive(Clone, Copy)]
+pub struct AnswerReport<'a, 'n>(pub AnswerLine<'a, 'n>);
 
 // An answer beside its entries, as words.
 #[derive(Clone, Copy)]
@@ -83,6 +96,14 @@ struct StopTold<'a, 'n>(Stop<'a, 'n>);
 // The kind and the full name of an entry.
 #[derive(Clone, Copy)]
 struct EntryWords<'a>(Option<Holder<'a>>);
+
+// The line of an entry for people, if there is one.
+#[derive(Clone, Copy)]
+struct EntryTold<'a> {
+    names: &'a [&'a str],
+    namespace: Namespace,
+    holder: Option<Holder<'a>>,
+}
 
 pub fn mode_word(mode: ResolveMode) -> &'static str
     ensures { result.now ≡ mode_word mode }
@@ -113,7 +134,7 @@ pub fn macro_word(expected: Option<MacroSubNs>) -> &'static str
     }
 }
 
-/// Whether the answer stays as it is when more is delivered.
+/// `no` where a name is left and there is no type to ask it of, else `yes`.
 pub fn status_word(status: ReachedFixedPoint) -> &'static str
     ensures { result.now ≡ status_word status }
 {
@@ -306,6 +327,73 @@ impl<'a> fmt::Display for EntriesWords<'a> {
         let values = EntryWords(self.values);
         let macros = EntryWords(self.macros);
         write!(f, "{types} {values} {macros}")
+    }
+}
+
+impl<'a> fmt::Display for EntryTold<'a> {
+    ghost output = { λ e. Some (entry_told (held e.names.now) e.namespace e.holder) };
+
+    fn fmt<W: fmt::Write>(&self, f: &mut fmt::Formatter<W>) -> fmt::Result {
+        match self.holder {
+            Some(holder) => {
+                let told = HolderTold {
+                    names: self.names,
+                    namespace: self.namespace,
+                    holder,
+                };
+                write!(f, "{told}")
+            }
+            None => Ok(()),
+        }
+    }
+}
+
+impl<'a> fmt::Display for EntriesTold<'a> {
+    ghost output = { λ e. Some (entries_told (held e.names.now) e.types e.values e.macros) };
+
+    fn fmt<W: fmt::Write>(&self, f: &mut fmt::Formatter<W>) -> fmt::Result {
+        let names = self.names;
+        let types = EntryTold {
+            names,
+            namespace: Namespace::Types,
+            holder: self.types,
+        };
+        let values = EntryTold {
+            names,
+            namespace: Namespace::Values,
+            holder: self.values,
+        };
+        let macros = EntryTold {
+            names,
+            namespace: Namespace::Macros,
+            holder: self.macros,
+        };
+        write!(f, "{types}{values}{macros}")
+    }
+}
+
+impl<'a, 'n> fmt::Display for AnswerReport<'a, 'n> {
+    ghost output = { λ a. Some (answer_report (held a.0.names.now) a.0.told.list.now a.0.told.path.now a.0.question a.0.told.answer a.0.entries.types a.0.entries.values a.0.entries.macros) };
+
+    fn fmt<W: fmt::Write>(&self, f: &mut fmt::Formatter<W>) -> fmt::Result {
+        let names = self.0.names;
+        let question = QuestionTold {
+            names,
+            question: self.0.question,
+        };
+        let EntriesWords {
+            types,
+            values,
+            macros,
+        } = self.0.entries;
+        let entries = EntriesTold {
+            names,
+            types,
+            values,
+            macros,
+        };
+        let told = self.0.told;
+        write!(f, "    asked from {question}\n{entries}{told}")
     }
 }
 

@@ -1,12 +1,11 @@
 // What holds a place, by the statements of a file.
 ghost use Rattle.std.specs.Prelude.{◌≡◌};
-ghost use Rattle.reports.specs.Holders.{widened, value_entry, macro_entry, holder_of, held, holder_at, entry_at};
+ghost use Rattle.reports.specs.Holders.{holder_of, held, holder_at, entry_at};
 
-use entries::per_ns::{Item, MacrosItem, PerNs, TypesItem, ValuesItem};
+use entries::per_ns::{PerNs, TypesItem, macro_entry, value_entry};
 use entries::visibility::Visibility;
 use firmware::definition::Definition;
 use firmware::definitions::Definitions;
-use hir_def::import::{ImportOrExternCrate, ImportOrGlob};
 use hir_def::{ModuleDefId, ModuleId, Name, Namespace};
 use item_scope::index::Index;
 use item_scope::steps::is_by_glob;
@@ -26,38 +25,6 @@ pub struct Holder<'a> {
     pub vis: Visibility,
     pub by_name: bool,
     pub line: Option<usize>,
-}
-
-fn widened(import: Option<ImportOrGlob>) -> Option<ImportOrExternCrate>
-    ensures { result ≡ widened import }
-{
-    match import {
-        Some(ImportOrGlob::Glob(id)) => Some(ImportOrExternCrate::Glob(id)),
-        Some(ImportOrGlob::Import(id)) => Some(ImportOrExternCrate::Import(id)),
-        None => None,
-    }
-}
-
-/// An entry of the values, told as one of the types is.
-pub fn value_entry(item: ValuesItem) -> TypesItem
-    ensures { result ≡ value_entry item }
-{
-    Item {
-        def: item.def,
-        vis: item.vis,
-        import: widened(item.import),
-    }
-}
-
-/// An entry of the macros, told as one of the types is.
-pub fn macro_entry(item: MacrosItem) -> TypesItem
-    ensures { result ≡ macro_entry item }
-{
-    Item {
-        def: ModuleDefId::MacroId(item.def),
-        vis: item.vis,
-        import: item.import,
-    }
 }
 
 fn holder_of<'a>(definitions: &Definitions<'a>, item: TypesItem, by_name: bool) -> Holder<'a>

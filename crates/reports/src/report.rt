@@ -1,7 +1,8 @@
 // Writes the report on the base of a file that was taken, statement by statement.
-ghost use Rattle.std.specs.Prelude.{OnOk};
+ghost use Rattle.std.specs.Prelude.{◌≡◌, IfOk, OnOk};
 ghost use Rattle.std.specs.Io.KnownBytes.{Appends};
-ghost use Rattle.reports.specs.Written.{heading};
+ghost use Rattle.path_text.specs.Written.{written_of};
+ghost use Rattle.reports.specs.Written.{heading, path_text_or};
 
 use crate::answer_report::write_answer;
 use crate::counts::DeliveryCounts;
@@ -23,8 +24,11 @@ use paths::told::PathTold;
 use std::alloc::{AllocError, Global};
 use std::io;
 
-/// The text that a path is written as.
-pub fn text_of(alloc: Global, list: &NameList, path: &ModPath) -> Result<Vec<u8>, AllocError> {
+/// The text that a path is written as; where the list lacks a name of it, a sentence that says so.
+pub fn text_of(alloc: Global, list: &NameList, path: &ModPath) -> Result<Vec<u8>, AllocError>
+    ensures { IfOk result
+        (λ v. v.items ≡ path_text_or (written_of list.now path.now.kind path.now.names.items)) }
+{
     match write_path(alloc, list, path)? {
         Some(text) => Ok(text),
         None => Vec::from_slice(alloc, b"with a name that the list does not have"),
