@@ -1,8 +1,6 @@
-// Tests of runs at concrete makes: what two orders come to on a table and on a ledger, and on two variants.
+// A test of runs at concrete makes: what two orders of the same calls come to, on a table and on a ledger.
 #![tactic(auto)]
 
-#[cfg(test)]
-mod agreements;
 #[cfg(test)]
 mod runs_compared;
 #[cfg(test)]

@@ -39,8 +39,8 @@ pub(crate) const G: Name = Name(20);
 
 const H: Name = Name(21);
 
-// How many names there are: those, and 70 more.
-const NAMES: u32 = 92;
+// How many names there are.
+const NAMES: u32 = 22;
 
 pub(crate) fn tables() -> IndexTables<'static> {
     IndexTables {
