@@ -26,6 +26,7 @@ it the last two are `stands`.
 """
 import pathlib
 import re
+import shutil
 import subprocess
 import sys
 import time
@@ -100,13 +101,18 @@ def run(folder, *words, stdin=None):
     return done.returncode, done.stdout.decode(errors="replace")
 
 
+# The crates that stand on it, also through others.
 def crates_above(copy, crate):
-    above = []
+    below = {}
     for line in (copy / "crates.txt").read_text().split("\n"):
         name, colon, rest = line.partition(":")
-        if colon and crate in rest.split():
-            above.append(name)
-    return above
+        if colon:
+            below[name] = rest.split()
+
+    def stands_on(name):
+        return any(it == crate or stands_on(it) for it in below.get(name, []))
+
+    return [name for name in below if stands_on(name)]
 
 
 # Which test or program tells, of those above the crate.
@@ -120,8 +126,12 @@ def told_by_tests(copy, crate):
         elif (folder / "src" / "main.rt").exists() and (folder / "stdout").exists():
             words = (folder / "args").read_text().split("\n") if (folder / "args").exists() else []
             stdin = (folder / "stdin").open("rb") if (folder / "stdin").exists() else subprocess.DEVNULL
+            # Its files lie where it runs, as in the gate.
+            lent = [shutil.copy(file, folder) for file in (folder / "data").glob("*")]
             done = subprocess.run(["rt", "try", "--", *filter(None, words)], cwd=folder, stdin=stdin,
                                   stdout=subprocess.PIPE, stderr=subprocess.DEVNULL)
+            for file in lent:
+                pathlib.Path(file).unlink()
             if (folder / "stdout").read_bytes() not in done.stdout:
                 return name
     return None
@@ -129,7 +139,7 @@ def told_by_tests(copy, crate):
 
 # What the check said of a bug: (kind, where), None where it stands, by the bug's own function or, alone, by anything.
 def judge(bug, said, alone):
-    if re.search(r"logic=proved", said):
+    if is_proved(said):
         return None
     module = pathlib.Path(bug.file).stem
     if bug.law:
@@ -188,9 +198,16 @@ def does_not_compile(bug, said):
     return bug.function and any(bug.function[1] <= line <= bug.function[2] for line in lines)
 
 
+# Whether nothing of the crate is refused. A check past open goals says so item by item.
+def is_proved(said):
+    items = re.findall(r"^(?:fn|impl|struct|enum|trait) \S+: (.*)$", said, re.M)
+    whole = items and all(told in ("no holes", "proved") for told in items) and not re.search(r"^\S+: error", said, re.M)
+    return "logic=proved" in said or (whole and re.search(r"^holes=0$", said, re.M))
+
+
 # Whether the check came as far as proofs.
 def is_read(said):
-    return "logic=proved" in said or re.search(r"^fn \S+: ", said, re.M)
+    return is_proved(said) or re.search(r"^fn \S+: ", said, re.M)
 
 
 # Plants bugs of one crate at once, and gives each one's verdict, or None where it is to be planted alone; where some do not compile, of

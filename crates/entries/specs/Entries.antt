@@ -58,9 +58,6 @@ of_macros d v i = record { types = None; values = None; macros = entry d v i }
 abbrev pub is_nothing : PerNs → Bool
 is_nothing p = not (is_some p.types) && (not (is_some p.values) && not (is_some p.macros))
 
-abbrev pub is_full : PerNs → Bool
-is_full p = is_some p.types && (is_some p.values && is_some p.macros)
-
 -- the left entry of each namespace, else the right one
 abbrev pub or_else : PerNs → PerNs → PerNs
 or_else p q = record { types = option_or p.types q.types; values = option_or p.values q.values; macros = option_or p.macros q.macros }

@@ -1,7 +1,7 @@
 // One name can stand for a type, a value and a macro at once: an entry for each namespace.
 ghost use Rattle.std.specs.Prelude.{◌≡◌, Bool, Decides};
-ghost use Rattle.entries.specs.Entries.{Both, both_equal, reresolved_by, nothing, of_types, of_values, of_both, of_macros, is_nothing, is_full, or_else, kept, kept_all, value_entry, macro_entry};
-ghost use Rattle.entries.specs.Merges.{LeftWinsEach, KeepsSeen, KeepsSeenEach};
+ghost use Rattle.entries.specs.Entries.{Both, both_equal, reresolved_by, nothing, of_types, of_values, of_both, of_macros, is_nothing, or_else, kept, kept_all, value_entry, macro_entry};
+ghost use Rattle.entries.specs.Merges.{LeftWinsEach, KeepsSeenEach};
 
 use crate::visibility::Visibility;
 use hir_def::import::{ImportOrExternCrate, ImportOrGlob, import_or_glob, widened};
@@ -73,16 +73,17 @@ pub fn macro_entry(item: MacrosItem) -> TypesItem
     }
 }
 
-/// The entry, where `from` may see it.
-pub fn filter_item<T: Tree, Def: Copy, Import: Copy>(
-    item: Option<Item<Def, Import>>,
+// Takes the entry out, unless `from` may see it.
+fn filter_item<T: Tree, Def: Copy, Import: Copy>(
+    item: &mut Option<Item<Def, Import>>,
     tree: &T,
     from: ModuleId,
-) -> Option<Item<Def, Import>>
-    ensures value { result ≡ kept (T.shape tree.now) from item }
-    ensures seen { KeepsSeen (T.shape tree.now) from item result }
+)
+    ensures { item.new ≡ kept (T.shape tree.now) from item.old }
 {
-    item.filter(|it| it.vis.sees(tree, from))
+    if item.is_some_and(|it| !it.vis.sees(tree, from)) {
+        *item = None;
+    }
 }
 
 #[derive(Clone, Copy, PartialEq, Eq, Hash, Debug)]
@@ -160,33 +161,38 @@ impl PerNs {
         self.types.is_none() && self.values.is_none() && self.macros.is_none()
     }
 
-    pub fn is_full(&self) -> bool
-        ensures { result ≡ is_full self.now }
-    {
-        self.types.is_some() && self.values.is_some() && self.macros.is_some()
-    }
-
     /// In each namespace this entry, else the other one.
-    pub fn or(self, other: PerNs) -> PerNs
+    pub fn or(mut self, other: PerNs) -> PerNs
         ensures value { result ≡ or_else self other }
         ensures left { LeftWinsEach self other result }
     {
-        PerNs {
-            types: self.types.or(other.types),
-            values: self.values.or(other.values),
-            macros: self.macros.or(other.macros),
+        self.fill(&other);
+        self
+    }
+
+    /// Takes the other's entry in each namespace that has none.
+    pub fn fill(&mut self, other: &PerNs)
+        ensures value { self.new ≡ or_else self.old other.now }
+        ensures left { LeftWinsEach self.old other.now self.new }
+    {
+        if self.types.is_none() {
+            self.types = other.types;
+        }
+        if self.values.is_none() {
+            self.values = other.values;
+        }
+        if self.macros.is_none() {
+            self.macros = other.macros;
         }
     }
 
-    /// The entries that `from` may see.
-    pub fn filter_visibility<T: Tree>(self, tree: &T, from: ModuleId) -> PerNs
-        ensures value { result ≡ kept_all (T.shape tree.now) from self }
-        ensures seen { KeepsSeenEach (T.shape tree.now) from self result }
+    /// Takes the entries out that `from` may not see.
+    pub fn filter_visibility<T: Tree>(&mut self, tree: &T, from: ModuleId)
+        ensures value { self.new ≡ kept_all (T.shape tree.now) from self.old }
+        ensures seen { KeepsSeenEach (T.shape tree.now) from self.old self.new }
     {
-        PerNs {
-            types: filter_item(self.types, tree, from),
-            values: filter_item(self.values, tree, from),
-            macros: filter_item(self.macros, tree, from),
-        }
+        filter_item(&mut self.types, tree, from);
+        filter_item(&mut self.values, tree, from);
+        filter_item(&mut self.macros, tree, from);
     }
 }

@@ -9,7 +9,7 @@ use Rattle.hir_def.specs.declared.fault.Failure.{Failure}
 use Rattle.hir_def.specs.declared.fault.Failure.TheVariants.{Memory, Refused}
 use Rattle.hir_def.specs.declared.fault.TextFault.{TextFault}
 use Rattle.hir_def.specs.Faults.{IfRefused, OnMemory}
-use Rattle.firmware.specs.declared.trouble.Trouble.{Trouble}
+use Rattle.troubles.specs.declared.trouble.Trouble.{Trouble}
 use Rattle.source_text.specs.declared.words.Word.{Word}
 use Rattle.firmware.specs.Paths.{AllRead, FirstBad, Tells, WantsAt}
 

@@ -3,7 +3,7 @@ use Rattle.std.proofs.Common.{◌≡◌, ℕ, ◌+◌, ◌<◌, ◌≤◌, List,
 use Rattle.std.proofs.lemmas.List.{take_more, take_all}
 use Rattle.item_scope.specs.Views.{View}
 use Rattle.item_scope.specs.Deliveries.{Takes}
-use Rattle.firmware.specs.declared.reader.DeliveryStatement.{DeliveryStatement}
+use Rattle.firmware.specs.declared.file.DeliveryStatement.{DeliveryStatement}
 use Rattle.firmware.specs.declared.deliveries.Outcome.{Outcome}
 use Rattle.firmware.specs.Deliveries.{Ran}
 

@@ -4,8 +4,8 @@ use Rattle.hir_def.specs.Faults.{IfRefused}
 use Rattle.hir_def.specs.declared.fault.Failure.{Failure}
 use Rattle.hir_def.specs.declared.fault.Failure.TheVariants.{Memory, Refused}
 use Rattle.path_text.specs.declared.mod_path.ModPath.{ModPath}
-use Rattle.firmware.specs.declared.reader.Firmware.{Firmware}
-use Rattle.firmware.specs.declared.trouble.Trouble.{Trouble}
+use Rattle.firmware.specs.declared.file.Firmware.{Firmware}
+use Rattle.troubles.specs.declared.trouble.Trouble.{Trouble}
 use Rattle.firmware.specs.Paths.{AllRead, FirstBad}
 use Rattle.firmware.specs.Surveys.{Denies, WhyNot}
 

@@ -2,7 +2,7 @@
 use Rattle.std.specs.Prelude.{◌≡◌, ℕ, List, [], ◌∷◌}
 use Rattle.item_scope.specs.Views.{View}
 use Rattle.item_scope.specs.Deliveries.{Takes}
-use Rattle.firmware.specs.declared.reader.DeliveryStatement.{DeliveryStatement}
+use Rattle.firmware.specs.declared.file.DeliveryStatement.{DeliveryStatement}
 use Rattle.firmware.specs.declared.deliveries.Outcome.{Outcome}
 
 -- each delivery is answered as an index answers it that tells what those before it made, and has as many rows left

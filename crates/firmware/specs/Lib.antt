@@ -1,6 +1,5 @@
 pub mod Definitions
 pub mod Deliveries
-pub mod Kinds
 pub mod Models
 pub mod Paths
 pub mod Piles

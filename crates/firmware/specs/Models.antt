@@ -6,7 +6,7 @@ use Rattle.std.specs.declared.ops.Range.{Range}
 use Rattle.firmware.specs.declared.models.Mark.{Mark}
 use Rattle.firmware.specs.declared.pile.Part.{Part}
 use Rattle.firmware.specs.declared.pile.Part.TheVariants.{Base, Model}
-use Rattle.firmware.specs.declared.reader.Firmware.{Firmware}
+use Rattle.firmware.specs.declared.file.Firmware.{Firmware}
 
 -- as far as the file has come
 abbrev pub reached : Firmware → Mark

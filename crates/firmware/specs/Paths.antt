@@ -9,9 +9,9 @@ use Rattle.path_text.specs.Laws.{IsRead, Denies, IsReadable}
 use Rattle.hir_def.specs.Faults.{IfRefused}
 use Rattle.hir_def.specs.declared.fault.Failure.{Failure}
 use Rattle.hir_def.specs.declared.fault.Failure.TheVariants.{Memory, Refused}
-use Rattle.firmware.specs.declared.complaint.Complaint.{Complaint}
-use Rattle.firmware.specs.declared.trouble.Trouble.{Trouble}
-use Rattle.firmware.specs.declared.trouble.Trouble.TheVariants.{Text, Tables}
+use Rattle.troubles.specs.declared.complaint.Complaint.{Complaint}
+use Rattle.troubles.specs.declared.trouble.Trouble.{Trouble}
+use Rattle.troubles.specs.declared.trouble.Trouble.TheVariants.{Text, Tables}
 use Rattle.source_text.specs.declared.words.Word.{Word}
 
 -- each path is the reading of its word

@@ -11,11 +11,11 @@ use Rattle.index_tables.specs.IndexRows.{IndexRows}
 use Rattle.index_tables.specs.Loading.{LoadsIndex}
 use Rattle.index_tables.specs.LoadedTables.{rows_in}
 use Rattle.index_tables.specs.declared.loaded_tables.LoadedTables.{LoadedTables}
-use Rattle.firmware.specs.declared.complaint.Complaint.{Complaint}
-use Rattle.firmware.specs.declared.reader.Firmware.{Firmware}
+use Rattle.troubles.specs.declared.complaint.Complaint.{Complaint}
+use Rattle.firmware.specs.declared.file.Firmware.{Firmware}
 use Rattle.firmware.specs.declared.survey.Survey.{Survey}
-use Rattle.firmware.specs.declared.trouble.Trouble.{Trouble}
-use Rattle.firmware.specs.declared.trouble.Trouble.TheVariants.{Text, Tables}
+use Rattle.troubles.specs.declared.trouble.Trouble.{Trouble}
+use Rattle.troubles.specs.declared.trouble.Trouble.TheVariants.{Text, Tables}
 use Rattle.path_text.specs.declared.mod_path.ModPath.{ModPath}
 use Rattle.firmware.specs.Paths.{AllRead, FirstBad}
 use Rattle.firmware.specs.Words.{word_at}

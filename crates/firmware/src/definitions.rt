@@ -2,25 +2,24 @@
 ghost use Rattle.std.specs.Prelude.{◌≡◌, slice_get};
 ghost use Rattle.firmware.specs.Definitions.{definition_of, statement_of, line_of, place_of, item_of};
 
-use crate::definition::{Bringing, Definition, ItemKind, Standing};
+use crate::definition::{Definition, Standing};
 use hir_def::import::ImportOrExternCrate;
 use hir_def::{AdtId, ModuleDefId};
-use std::alloc::Global;
 
 /// The statements of definitions and imports, each by its number.
 #[derive(Drop)]
 pub struct Definitions<'a> {
-    pub(crate) modules: Vec<Definition<'a>>,
-    pub(crate) enums: Vec<Definition<'a>>,
-    pub(crate) macros: Vec<Definition<'a>>,
-    // Functions, fields, variants and the like have one count.
-    pub(crate) others: Vec<Definition<'a>>,
-    // The statements of imports, each with the module that imports.
-    pub(crate) imports: Vec<Definition<'a>>,
-    pub(crate) globs: Vec<Definition<'a>>,
-    pub(crate) extern_crates: Vec<Definition<'a>>,
-    // The items of a kind and the legacy macros, in the order of their statements.
-    pub(crate) of_a_kind: Vec<ModuleDefId>,
+    pub modules: Vec<Definition<'a>>,
+    pub enums: Vec<Definition<'a>>,
+    pub macros: Vec<Definition<'a>>,
+    /// Functions, fields, variants and the like have one count.
+    pub others: Vec<Definition<'a>>,
+    /// The statements of imports, each with the module that imports.
+    pub imports: Vec<Definition<'a>>,
+    pub globs: Vec<Definition<'a>>,
+    pub extern_crates: Vec<Definition<'a>>,
+    /// The items of a kind and the legacy macros, in the order of their statements.
+    pub of_a_kind: Vec<ModuleDefId>,
 }
 
 // The statement of that number among those of its kind.
@@ -31,37 +30,6 @@ fn nth<'a>(statements: &[Definition<'a>], number: u32) -> Option<Definition<'a>>
 }
 
 impl<'a> Definitions<'a> {
-    pub(crate) fn new(alloc: Global) -> Definitions<'a> {
-        Definitions {
-            modules: Vec::new(alloc),
-            enums: Vec::new(alloc),
-            macros: Vec::new(alloc),
-            others: Vec::new(alloc),
-            imports: Vec::new(alloc),
-            globs: Vec::new(alloc),
-            extern_crates: Vec::new(alloc),
-            of_a_kind: Vec::new(alloc),
-        }
-    }
-
-    /// The statements of a kind.
-    pub(crate) fn of_kind(&mut self, kind: ItemKind) -> &mut Vec<Definition<'a>> {
-        match kind {
-            ItemKind::Enum => &mut self.enums,
-            ItemKind::Macro(_) => &mut self.macros,
-            _ => &mut self.others,
-        }
-    }
-
-    /// The statements of the imports of a kind.
-    pub(crate) fn of_imports(&mut self, bringing: Bringing) -> &mut Vec<Definition<'a>> {
-        match bringing {
-            Bringing::Named => &mut self.imports,
-            Bringing::Glob => &mut self.globs,
-            Bringing::ExternCrate => &mut self.extern_crates,
-        }
-    }
-
     /// The statement of what a name stands for. A built-in type has none.
     pub fn get(&self, def: ModuleDefId) -> Option<Definition<'a>>
         ensures { result ≡ definition_of self.now def }

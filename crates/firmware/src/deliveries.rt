@@ -2,13 +2,13 @@
 ghost use Rattle.std.specs.Prelude.{IfOk, vec_items};
 ghost use Rattle.firmware.specs.Deliveries.{Ran};
 
-use crate::reader::DeliveryStatement;
+use crate::file::DeliveryStatement;
 use hir_def::fault::IndexFault;
 use item_scope::index::{Recipient, deliver};
 use std::alloc::{AllocError, Global};
 
 /// A delivery, and what the index answered to it: whether any namespace changed, or why it is refused.
-#[derive(Clone, Copy, Debug)]
+#[derive(Clone, Copy)]
 pub struct Outcome<'a> {
     pub statement: DeliveryStatement<'a>,
     pub result: Result<bool, IndexFault>,

@@ -2,34 +2,29 @@
 ghost use Rattle.std.specs.Prelude.{◌≡◌, slice_range, vec_items};
 ghost use Rattle.firmware.specs.Models.{reached, mark_at, began, ended, paths_between};
 
-use crate::complaint::Complaint;
-use crate::names::text_of;
+use crate::file::{DeliveryStatement, Firmware};
 use crate::pile::{Part, Pile};
-use crate::reader::{DeliveryStatement, Firmware};
-use crate::trouble::Trouble;
 use hir_def::ModuleDefId;
-use hir_def::fault::Failure;
-use source_text::words::Word;
 use std::ops::Range;
 
 /// How many deliveries, paths and items of a kind a file has told up to a statement.
-#[derive(Clone, Copy, PartialEq, Eq, Debug)]
-pub(crate) struct Mark {
+#[derive(Clone, Copy)]
+pub struct Mark {
     deliveries: usize,
     paths: usize,
     items: usize,
 }
 
 /// A card model: places of its own over the firmware tree or over another model.
-#[derive(Clone, Copy, Debug)]
+#[derive(Clone, Copy)]
 pub struct Model<'a> {
     pub name: &'a str,
     /// Lines count from 1.
     pub line: usize,
     /// The last of it is the model itself.
     pub pile: Pile,
-    // Where its part of the file begins.
-    pub(crate) began: Mark,
+    /// Where its part of the file begins.
+    pub began: Mark,
 }
 
 // What stands between two places of a list.
@@ -40,8 +35,8 @@ fn between<T>(items: &[T], began: usize, ended: usize) -> &[T]
 }
 
 impl<'a> Firmware<'a> {
-    // As far as the file has come.
-    fn reached(&self) -> Mark
+    /// As far as the file has come.
+    pub fn reached(&self) -> Mark
         ensures { result ≡ reached self.now }
     {
         Mark {
@@ -116,70 +111,4 @@ impl<'a> Firmware<'a> {
             self.ended(part).items,
         )
     }
-
-    // The part to which the next statement belongs.
-    pub(crate) fn part(&self) -> Part {
-        match self.models.last() {
-            Some(model) => Part::Model(model.pile.top()),
-            None => Part::Base,
-        }
-    }
-
-    // The pile of a model over the one of that name.
-    fn pile_over(&self, word: Word<'a>, model: usize) -> Result<Pile, Complaint> {
-        let below = match self.model_numbers.get(word.text) {
-            Some(number) => self.models.get(*number),
-            None => None,
-        };
-        let Some(below) = below else {
-            return Err(Complaint::at(
-                word,
-                "no model of this name is declared above",
-                "the name of a model declared above",
-            ));
-        };
-        below.pile.with_top(model).ok_or(Complaint::at(
-            word,
-            "a model over this one is the fourth of its pile",
-            "a model that stands over the tree, or over one that does: a pile has at most three",
-        ))
-    }
-
-    /// A model begins a part of the file.
-    pub(crate) fn add_model(
-        &mut self,
-        word: Word<'a>,
-        below: Option<Word<'a>>,
-    ) -> Result<(), Failure<Trouble>> {
-        if self.model_numbers.contains_key(word.text) {
-            return Err(Failure::from(Complaint::at(
-                word,
-                "a model of this name is declared above",
-                "a name of its own",
-            )));
-        }
-        let number = self.models.len();
-        let pile = match below {
-            Some(below) => self.pile_over(below, number)?,
-            None => Pile::One(number),
-        };
-        let began = self.reached();
-        self.models.push(Model {
-            name: text_of(word)?,
-            line: word.line,
-            pile,
-            began,
-        })?;
-        self.model_numbers.insert(word.text, number)?;
-        Ok(())
-    }
-}
-
-/// What cannot stand below a model, told at the first word of the statement.
-pub(crate) fn below_a_model(verb: Word) -> Complaint {
-    Complaint::at(
-        verb,
-        "this cannot stand below a model",
-        "an item of a kind, an import, a path or a model; what is told of the tree stands above the first model",
-    )
 }

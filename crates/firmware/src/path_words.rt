@@ -4,15 +4,15 @@ ghost use Rattle.std.specs.List.{slice_get};
 ghost use Rattle.hir_def.specs.Faults.{OnMemory};
 ghost use Rattle.firmware.specs.Paths.{ReadsAll, Tells, TellsAt, WantsAt};
 
-use crate::complaint::Complaint;
-use crate::reader::Firmware;
-use crate::trouble::Trouble;
+use crate::file::Firmware;
 use hir_def::fault::{Failure, TextFault};
 use path_text::mod_path::ModPath;
 use path_text::name_list::NameList;
 use path_text::read::read_path;
 use source_text::words::Word;
 use std::alloc::Global;
+use troubles::complaint::Complaint;
+use troubles::trouble::Trouble;
 
 // What is wrong with a path, at the byte that the refusal tells. Counts tell no byte, and then it is the first; a line of the
 // name list is no matter of one path.

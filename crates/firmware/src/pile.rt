@@ -42,15 +42,6 @@ impl Pile {
         }
     }
 
-    // The models from the lowest, three at most.
-    pub(crate) fn models(self) -> [Option<usize>; 3] {
-        match self {
-            Pile::One(a) => [Some(a), None, None],
-            Pile::Two(a, b) => [Some(a), Some(b), None],
-            Pile::Three(a, b, c) => [Some(a), Some(b), Some(c)],
-        }
-    }
-
     /// The parts of the file that the top's index has: the base, and then the models from the lowest.
     pub fn parts(self, alloc: Global) -> Result<Vec<Part>, AllocError>
         ensures { IfOk result (λ v. vec_items v ≡ parts_of self) }

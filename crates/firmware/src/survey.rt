@@ -3,10 +3,8 @@ ghost use Rattle.std.specs.Prelude.{◌≡◌, IfOk, IfErr};
 ghost use Rattle.index_tables.specs.IndexRows.{lent_rows};
 ghost use Rattle.firmware.specs.Surveys.{declared_rows, Tells, TablesOf, Takes, WhyNot, count_of};
 
-use crate::complaint::Complaint;
+use crate::file::Firmware;
 use crate::path_words::read_paths;
-use crate::reader::Firmware;
-use crate::trouble::Trouble;
 use hir_def::fault::{Failure, Fault, IndexFault};
 use index_tables::loaded_tables::{IndexTables, LoadedTables};
 use nameres::tree_rows::Tables;
@@ -14,6 +12,8 @@ use path_text::mod_path::ModPath;
 use path_text::name_list::NameList;
 use std::alloc::Global;
 use std::hash::{BuildHasherDefault, FoldHasher};
+use troubles::complaint::Complaint;
+use troubles::trouble::Trouble;
 
 /// How the keys of tables are hashed; no answer depends on it.
 pub type Hashers = BuildHasherDefault<FoldHasher>;

@@ -8,29 +8,15 @@ use index_tables::keys::{CrateName, EnumName, MapName, ModuleName};
 use item_scope::index_data::{CallStyles, DefMapId, EnumVariant, ExternPrelude, MacroUse};
 use keyed::row::Row;
 use source_text::words::Word;
-use std::alloc::{AllocError, Global};
 
 /// Rows, and the words that tell them.
 #[derive(Drop)]
-pub(crate) struct RowsTold<'a, K, V> {
-    pub(crate) rows: Vec<Row<K, V>>,
-    pub(crate) words: Vec<Word<'a>>,
+pub struct RowsTold<'a, K, V> {
+    pub rows: Vec<Row<K, V>>,
+    pub words: Vec<Word<'a>>,
 }
 
 impl<'a, K: Copy, V: Copy> RowsTold<'a, K, V> {
-    fn new(alloc: Global) -> RowsTold<'a, K, V> {
-        RowsTold {
-            rows: Vec::new(alloc),
-            words: Vec::new(alloc),
-        }
-    }
-
-    pub(crate) fn push(&mut self, key: K, value: V, word: Word<'a>) -> Result<(), AllocError> {
-        self.words.push(word)?;
-        self.rows.push(Row { key, value })?;
-        Ok(())
-    }
-
     // The word at a position, or the position among the words that follow these.
     fn word(&self, at: usize) -> Result<Word<'a>, usize>
         ensures found { IfOk result (λ w. slice_get (vec_items self.now.words) at ≡ Some w) }
@@ -45,30 +31,19 @@ impl<'a, K: Copy, V: Copy> RowsTold<'a, K, V> {
 
 /// The tables of an index beside its tree.
 #[derive(Drop)]
-pub(crate) struct IndexRows<'a> {
-    pub(crate) extern_prelude: RowsTold<'a, CrateName, ExternPrelude>,
-    pub(crate) macro_use: RowsTold<'a, MapName, MacroUse>,
-    pub(crate) preludes: RowsTold<'a, DefMapId, ModuleId>,
-    pub(crate) legacy: RowsTold<'a, ModuleName, MacroId>,
-    pub(crate) variants: RowsTold<'a, EnumName, EnumVariant>,
-    pub(crate) styles: Vec<CallStyles>,
+pub struct IndexRows<'a> {
+    pub extern_prelude: RowsTold<'a, CrateName, ExternPrelude>,
+    pub macro_use: RowsTold<'a, MapName, MacroUse>,
+    pub preludes: RowsTold<'a, DefMapId, ModuleId>,
+    pub legacy: RowsTold<'a, ModuleName, MacroId>,
+    pub variants: RowsTold<'a, EnumName, EnumVariant>,
+    pub styles: Vec<CallStyles>,
 }
 
 impl<'a> IndexRows<'a> {
-    pub(crate) fn new(alloc: Global) -> IndexRows<'a> {
-        IndexRows {
-            extern_prelude: RowsTold::new(alloc),
-            macro_use: RowsTold::new(alloc),
-            preludes: RowsTold::new(alloc),
-            legacy: RowsTold::new(alloc),
-            variants: RowsTold::new(alloc),
-            styles: Vec::new(alloc),
-        }
-    }
-
     /// The word that tells the row of that number, as a load counts them: after the three counts. None for a row of another
     /// table.
-    pub(crate) fn word(&self, row: usize) -> Option<Word<'a>>
+    pub fn word(&self, row: usize) -> Option<Word<'a>>
         ensures { result ≡ word_at self.now row }
     {
         let row = row.checked_sub(3)?;

@@ -1,5 +1,5 @@
 // Definitions and imports: what holds each place, and what is refused.
-use crate::written::{TABLE, complains, says, styled, written};
+use crate::written::{TABLE, complain_each, says, styled, written};
 use model_reports::indexed::{Lending, Make};
 use reports::style::Form;
 use std::test::Fail;
@@ -57,48 +57,50 @@ fn each_kind(rt: HostRuntime) -> Result<(), Fail> {
 
 #[test]
 fn bad_items(rt: HostRuntime) -> Result<(), Fail> {
-    complains(
+    complain_each(
         &rt,
-        b"crate a 2021\nstruct s in a pub\n",
-        "f.feq:2:18: the statement ends here\n    struct s in a pub\n                     ^\nexpected a shape: `unit`, `tuple` or `record`\n",
-    )?;
-    complains(
-        &rt,
-        b"crate a 2021\nmacro m in a pub bang once\n",
-        "f.feq:2:23: a macro is not called so\n    macro m in a pub bang once\n                          ^\nexpected how the macro is called: `bang`, `attribute` or `derive`, one at least\n",
-    )?;
-    complains(
-        &rt,
-        b"crate a 2021\nvariant a::e::v unit\n",
-        "f.feq:2:9: nothing of this name and a kind is declared above\n    variant a::e::v unit\n            ^\nexpected the full name of a module, an item of a kind or a variant declared above\n",
-    )?;
-    complains(
-        &rt,
-        b"crate a 2021\nlegacy-macro m in a\nlegacy-macro m in a\n",
-        "f.feq:3:14: a statement above tells this already\n    legacy-macro m in a\n                 ^\nexpected one statement for each name in a table\n",
+        &[
+            (
+                b"crate a 2021\nstruct s in a pub\n",
+                "f.feq:2:18: the statement ends here\n    struct s in a pub\n                     ^\nexpected a shape: `unit`, `tuple` or `record`\n",
+            ),
+            (
+                b"crate a 2021\nmacro m in a pub bang once\n",
+                "f.feq:2:23: a macro is not called so\n    macro m in a pub bang once\n                          ^\nexpected how the macro is called: `bang`, `attribute` or `derive`, one at least\n",
+            ),
+            (
+                b"crate a 2021\nvariant a::e::v unit\n",
+                "f.feq:2:9: nothing of this name and a kind is declared above\n    variant a::e::v unit\n            ^\nexpected the full name of a module, an item of a kind or a variant declared above\n",
+            ),
+            (
+                b"crate a 2021\nlegacy-macro m in a\nlegacy-macro m in a\n",
+                "f.feq:3:14: a statement above tells this already\n    legacy-macro m in a\n                 ^\nexpected one statement for each name in a table\n",
+            ),
+        ],
     )
 }
 
 #[test]
 fn bad_imports(rt: HostRuntime) -> Result<(), Fail> {
-    complains(
+    complain_each(
         &rt,
-        b"crate a 2021\nitem x in a pub\nuse a::x in a pub\n",
-        "f.feq:3:5: nothing of this name and a kind is declared above\n    use a::x in a pub\n        ^\nexpected the full name of a module, an item of a kind or a variant declared above\n",
-    )?;
-    complains(
-        &rt,
-        b"crate a 2021\nfn x in a pub\nuse-glob a::x as y in a pub\n",
-        "f.feq:3:15: this word cannot stand here\n    use-glob a::x as y in a pub\n                  ^\nexpected `in` and the module that the item stands in\n",
-    )?;
-    complains(
-        &rt,
-        b"crate a 2021\nmodule a::b\nextern-crate a::b in a pub\n",
-        "f.feq:3:14: this is no crate\n    extern-crate a::b in a pub\n                 ^\nexpected the name of a crate declared above\n",
-    )?;
-    complains(
-        &rt,
-        b"crate a 2021\nmodule a::b\nprelude a::b in a::b\n",
-        "f.feq:3:17: this is no crate and no block\n    prelude a::b in a::b\n                    ^\nexpected the full name of a crate or a block declared above\n",
+        &[
+            (
+                b"crate a 2021\nitem x in a pub\nuse a::x in a pub\n",
+                "f.feq:3:5: nothing of this name and a kind is declared above\n    use a::x in a pub\n        ^\nexpected the full name of a module, an item of a kind or a variant declared above\n",
+            ),
+            (
+                b"crate a 2021\nfn x in a pub\nuse-glob a::x as y in a pub\n",
+                "f.feq:3:15: this word cannot stand here\n    use-glob a::x as y in a pub\n                  ^\nexpected `in` and the module that the item stands in\n",
+            ),
+            (
+                b"crate a 2021\nmodule a::b\nextern-crate a::b in a pub\n",
+                "f.feq:3:14: this is no crate\n    extern-crate a::b in a pub\n                 ^\nexpected the name of a crate declared above\n",
+            ),
+            (
+                b"crate a 2021\nmodule a::b\nprelude a::b in a::b\n",
+                "f.feq:3:17: this is no crate and no block\n    prelude a::b in a::b\n                    ^\nexpected the full name of a crate or a block declared above\n",
+            ),
+        ],
     )
 }

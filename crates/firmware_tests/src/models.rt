@@ -1,8 +1,9 @@
 // Card models: what is read of each part of a file, and what is told of bad ones.
-use crate::written::complains;
+use crate::written::complain_each;
+use file_reader::reader::read_firmware;
 use firmware::definition::Standing;
+use firmware::file::Firmware;
 use firmware::pile::{Part, Pile};
-use firmware::reader::Firmware;
 use hir_def::import::ImportOrExternCrate;
 use hir_def::{AdtId, EnumId, EnumVariantId, FunctionId, GlobId, ModuleDefId, StructId};
 use std::alloc::Global;
@@ -39,7 +40,7 @@ fn has(
 
 #[test]
 fn parts(rt: HostRuntime) -> Result<(), Fail> {
-    let firmware = Firmware::read(rt.alloc(), CARDS)?;
+    let firmware = read_firmware(rt.alloc(), CARDS)?;
     let structure = ModuleDefId::AdtId(AdtId::StructId(StructId(2)));
     has(
         &rt,
@@ -77,7 +78,7 @@ fn parts(rt: HostRuntime) -> Result<(), Fail> {
 
 #[test]
 fn piles(rt: HostRuntime) -> Result<(), Fail> {
-    let firmware = Firmware::read(rt.alloc(), CARDS)?;
+    let firmware = read_firmware(rt.alloc(), CARDS)?;
     assert_eq!(rt; firmware.models.len(), 3);
     let two = firmware.models[1];
     assert_eq!(rt; (two.name, two.line), ("two", 9));
@@ -93,7 +94,7 @@ fn piles(rt: HostRuntime) -> Result<(), Fail> {
 
 #[test]
 fn statements(rt: HostRuntime) -> Result<(), Fail> {
-    let firmware = Firmware::read(rt.alloc(), CARDS)?;
+    let firmware = read_firmware(rt.alloc(), CARDS)?;
     let glob = Some(ImportOrExternCrate::Glob(GlobId(0)));
     let definitions = &firmware.definitions;
     let import = definitions
@@ -105,7 +106,7 @@ fn statements(rt: HostRuntime) -> Result<(), Fail> {
         .ok_or("no statement")?;
     assert_eq!(rt; (own.within, own.name, own.line), ("a::b", "f", 6));
     let text = b"crate a 2021\nenum e in a pub\nvariant a::e::v unit\n";
-    let firmware = Firmware::read(rt.alloc(), text)?;
+    let firmware = read_firmware(rt.alloc(), text)?;
     let variant = ModuleDefId::EnumVariantId(EnumVariantId(0));
     let of = ModuleDefId::AdtId(AdtId::EnumId(EnumId(0)));
     assert_eq!(rt; firmware.definitions.item_of(variant), of);
@@ -117,38 +118,42 @@ fn statements(rt: HostRuntime) -> Result<(), Fail> {
 
 #[test]
 fn bad_models(rt: HostRuntime) -> Result<(), Fail> {
-    complains(
+    complain_each(
         &rt,
-        b"model m\nmodel n over m\nmodel o over n\nmodel p over o\n",
-        "f.feq:4:14: a model over this one is the fourth of its pile\n    model p over o\n                 ^\nexpected a model that stands over the tree, or over one that does: a pile has at most three\n",
-    )?;
-    complains(
-        &rt,
-        b"model m over n\n",
-        "f.feq:1:14: no model of this name is declared above\n    model m over n\n                 ^\nexpected the name of a model declared above\n",
-    )?;
-    complains(
-        &rt,
-        b"model m\nmodel m\n",
-        "f.feq:2:7: a model of this name is declared above\n    model m\n          ^\nexpected a name of its own\n",
-    )?;
-    complains(
-        &rt,
-        b"model m on n\n",
-        "f.feq:1:9: this word cannot stand here\n    model m on n\n            ^\nexpected `over` and the name of a model declared above, or the end of the line\n",
+        &[
+            (
+                b"model m\nmodel n over m\nmodel o over n\nmodel p over o\n",
+                "f.feq:4:14: a model over this one is the fourth of its pile\n    model p over o\n                 ^\nexpected a model that stands over the tree, or over one that does: a pile has at most three\n",
+            ),
+            (
+                b"model m over n\n",
+                "f.feq:1:14: no model of this name is declared above\n    model m over n\n                 ^\nexpected the name of a model declared above\n",
+            ),
+            (
+                b"model m\nmodel m\n",
+                "f.feq:2:7: a model of this name is declared above\n    model m\n          ^\nexpected a name of its own\n",
+            ),
+            (
+                b"model m on n\n",
+                "f.feq:1:9: this word cannot stand here\n    model m on n\n            ^\nexpected `over` and the name of a model declared above, or the end of the line\n",
+            ),
+        ],
     )
 }
 
 #[test]
 fn bad_statements_below_models(rt: HostRuntime) -> Result<(), Fail> {
-    complains(
+    complain_each(
         &rt,
-        b"model m\n  crate a 2021\n",
-        "f.feq:2:3: this cannot stand below a model\n      crate a 2021\n      ^\nexpected an item of a kind, an import, a path or a model; what is told of the tree stands above the first model\n",
-    )?;
-    complains(
-        &rt,
-        b"crate a 2021\nmodel m\nfn x in a pub\nmodel n\nuse a::x in a pub\n",
-        "f.feq:5:5: nothing of this name and a kind is declared above\n    use a::x in a pub\n        ^\nexpected the full name of a module, an item of a kind or a variant declared above\n",
+        &[
+            (
+                b"model m\n  crate a 2021\n",
+                "f.feq:2:3: this cannot stand below a model\n      crate a 2021\n      ^\nexpected an item of a kind, an import, a path or a model; what is told of the tree stands above the first model\n",
+            ),
+            (
+                b"crate a 2021\nmodel m\nfn x in a pub\nmodel n\nuse a::x in a pub\n",
+                "f.feq:5:5: nothing of this name and a kind is declared above\n    use a::x in a pub\n        ^\nexpected the full name of a module, an item of a kind or a variant declared above\n",
+            ),
+        ],
     )
 }

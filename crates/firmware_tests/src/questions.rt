@@ -1,5 +1,5 @@
 // Tests of paths that are asked: what is answered, and statements that ask nothing.
-use crate::written::{complains, says};
+use crate::written::{complain_each, says};
 use reports::style::Form;
 use std::test::Fail;
 
@@ -16,14 +16,17 @@ fn answers(rt: HostRuntime) -> Result<(), Fail> {
 
 #[test]
 fn bad_questions(rt: HostRuntime) -> Result<(), Fail> {
-    complains(
+    complain_each(
         &rt,
-        b"crate a 2021\npath a from a mode=no\n",
-        "f.feq:2:15: this is no option of a question\n    path a from a mode=no\n                  ^\nexpected `mode=import`, `mode=other`, `shadow=module`, `shadow=other`, `macro=bang` or `macro=attribute`\n",
-    )?;
-    complains(
-        &rt,
-        b"crate a 2021\npath a at a\n",
-        "f.feq:2:8: this word cannot stand here\n    path a at a\n           ^\nexpected `from` and the module where the path stands, or the end of the line\n",
+        &[
+            (
+                b"crate a 2021\npath a from a mode=no\n",
+                "f.feq:2:15: this is no option of a question\n    path a from a mode=no\n                  ^\nexpected `mode=import`, `mode=other`, `shadow=module`, `shadow=other`, `macro=bang` or `macro=attribute`\n",
+            ),
+            (
+                b"crate a 2021\npath a at a\n",
+                "f.feq:2:8: this word cannot stand here\n    path a at a\n           ^\nexpected `from` and the module where the path stands, or the end of the line\n",
+            ),
+        ],
     )
 }

@@ -1,5 +1,5 @@
 // Statements and paths that are read, and what is told of bad ones.
-use crate::written::{FEW, TABLE, complains, says, styled, written};
+use crate::written::{FEW, TABLE, complain_each, complains, says, styled, written};
 use reports::style::Form;
 use std::alloc::AllocError;
 use std::test::Fail;
@@ -27,44 +27,47 @@ fn lines_for_programs(rt: HostRuntime) -> Result<(), Fail> {
 
 #[test]
 fn bad_statements(rt: HostRuntime) -> Result<(), Fail> {
-    complains(
+    complain_each(
         &rt,
-        b"krate a 2021",
-        "f.feq:1:1: no statement begins so\n    krate a 2021\n    ^\nexpected the first word of a statement, as `crate`, `module`, `fn`, `use` or `path`\n",
-    )?;
-    complains(
-        &rt,
-        b"crate a 2020",
-        "f.feq:1:9: this is no edition\n    crate a 2020\n            ^\nexpected an edition: 2015, 2018, 2021 or 2024\n",
-    )?;
-    complains(
-        &rt,
-        b"crate a 2021\n\titem x of a pub",
-        "f.feq:2:9: this word cannot stand here\n    \titem x of a pub\n    \t       ^\nexpected `in` and the module that the item stands in\n",
-    )?;
-    complains(
-        &rt,
-        b"crate _ 2021",
-        "f.feq:1:7: this is no name\n    crate _ 2021\n          ^\nexpected an identifier (a letter or `_`, then letters, digits or `_`, and not `_` alone) other than `crate`, `self` and `super`\n",
+        &[
+            (
+                b"krate a 2021",
+                "f.feq:1:1: no statement begins so\n    krate a 2021\n    ^\nexpected the first word of a statement, as `crate`, `module`, `fn`, `use` or `path`\n",
+            ),
+            (
+                b"crate a 2020",
+                "f.feq:1:9: this is no edition\n    crate a 2020\n            ^\nexpected an edition: 2015, 2018, 2021 or 2024\n",
+            ),
+            (
+                b"crate a 2021\n\titem x of a pub",
+                "f.feq:2:9: this word cannot stand here\n    \titem x of a pub\n    \t       ^\nexpected `in` and the module that the item stands in\n",
+            ),
+            (
+                b"crate _ 2021",
+                "f.feq:1:7: this is no name\n    crate _ 2021\n          ^\nexpected an identifier (a letter or `_`, then letters, digits or `_`, and not `_` alone) other than `crate`, `self` and `super`\n",
+            ),
+        ],
     )
 }
 
 #[test]
 fn bad_names(rt: HostRuntime) -> Result<(), Fail> {
-    complains(
+    complain_each(
         &rt,
-        b"crate a 2021\nmodule b::c\n",
-        "f.feq:2:8: no module of this name is declared above\n    module b::c\n           ^\nexpected the full name of a module declared above, as in `raid::layout`\n",
-    )?;
-    complains(
-        &rt,
-        b"crate a 2021\nmodule a::b\nblock a::b\n",
-        "f.feq:3:7: a module of this name is declared above\n    block a::b\n          ^\nexpected a name of its own\n",
-    )?;
-    complains(
-        &rt,
-        b"crate a 2021\nmodule a::9\n",
-        "f.feq:2:11: this is no name\n    module a::9\n              ^\nexpected an identifier (a letter or `_`, then letters, digits or `_`, and not `_` alone) other than `crate`, `self` and `super`\n",
+        &[
+            (
+                b"crate a 2021\nmodule b::c\n",
+                "f.feq:2:8: no module of this name is declared above\n    module b::c\n           ^\nexpected the full name of a module declared above, as in `raid::layout`\n",
+            ),
+            (
+                b"crate a 2021\nmodule a::b\nblock a::b\n",
+                "f.feq:3:7: a module of this name is declared above\n    block a::b\n          ^\nexpected a name of its own\n",
+            ),
+            (
+                b"crate a 2021\nmodule a::9\n",
+                "f.feq:2:11: this is no name\n    module a::9\n              ^\nexpected an identifier (a letter or `_`, then letters, digits or `_`, and not `_` alone) other than `crate`, `self` and `super`\n",
+            ),
+        ],
     )
 }
 
@@ -90,25 +93,26 @@ fn paths_of_each_kind(rt: HostRuntime) -> Result<(), Fail> {
 
 #[test]
 fn bad_paths(rt: HostRuntime) -> Result<(), Fail> {
-    complains(
+    complain_each(
         &rt,
-        b"crate a 2021\n\tpath a:a  // one colon\n",
-        "f.feq:2:9: the path cannot go on so\n    \tpath a:a  // one colon\n    \t       ^\nexpected names joined by `::`, after `crate`, `self`, `super` or `::`\n",
-    )?;
-    complains(
-        &rt,
-        b"crate a 2021\npath a::",
-        "f.feq:2:9: the path cannot go on so\n    path a::\n            ^\nexpected names joined by `::`, after `crate`, `self`, `super` or `::`\n",
-    )?;
-    complains(
-        &rt,
-        b"crate a 2021\npath a::u8::b::c\n",
-        "f.feq:2:13: no statement declares this name\n    path a::u8::b::c\n                ^\nexpected the name of a crate, module, block or item, or a built-in name\n",
-    )?;
-    complains(
-        &rt,
-        b"crate self 2021\n",
-        "f.feq:1:7: this is no name\n    crate self 2021\n          ^\nexpected an identifier (a letter or `_`, then letters, digits or `_`, and not `_` alone) other than `crate`, `self` and `super`\n",
+        &[
+            (
+                b"crate a 2021\n\tpath a:a  // one colon\n",
+                "f.feq:2:9: the path cannot go on so\n    \tpath a:a  // one colon\n    \t       ^\nexpected names joined by `::`, after `crate`, `self`, `super` or `::`\n",
+            ),
+            (
+                b"crate a 2021\npath a::",
+                "f.feq:2:9: the path cannot go on so\n    path a::\n            ^\nexpected names joined by `::`, after `crate`, `self`, `super` or `::`\n",
+            ),
+            (
+                b"crate a 2021\npath a::u8::b::c\n",
+                "f.feq:2:13: no statement declares this name\n    path a::u8::b::c\n                ^\nexpected the name of a crate, module, block or item, or a built-in name\n",
+            ),
+            (
+                b"crate self 2021\n",
+                "f.feq:1:7: this is no name\n    crate self 2021\n          ^\nexpected an identifier (a letter or `_`, then letters, digits or `_`, and not `_` alone) other than `crate`, `self` and `super`\n",
+            ),
+        ],
     )
 }
 

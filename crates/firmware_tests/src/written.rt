@@ -71,3 +71,14 @@ pub(crate) fn complains(
 ) -> Result<(), Fail> {
     says(rt, text, Form::Text, want, false)
 }
+
+// Each text is refused, with what stands beside it.
+pub(crate) fn complain_each(
+    rt: &(impl Abort + Alloc<A = Global>),
+    cases: &[(&[u8], &str)],
+) -> Result<(), Fail> {
+    for (text, want) in cases {
+        complains(rt, *text, *want)?;
+    }
+    Ok(())
+}

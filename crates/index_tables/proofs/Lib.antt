@@ -1,3 +1,4 @@
+pub mod Accepted
 pub mod Sound
 pub mod Taking
 pub mod Turns

@@ -1,18 +1,23 @@
 -- Tests that all pass, in the words of the rule, and what rows that pass them tell: numbers that exist.
-use Rattle.std.proofs.Common.{◌≡◌, ℕ, ◌+◌, Bool, true, false, not, ◌&&◌, List, [], ◌∷◌, ◌++◌, length, is_some, Some, None, ltb, sym, refl, subst, if◌then◌else◌, arith, rules}
+use Rattle.std.proofs.Common.{◌≡◌, ◌<◌, ◌≤◌, ℕ, ◌+◌, Bool, true, false, not, ◌&&◌, List, [], ◌∷◌, ◌++◌, length, is_some, Some, None, ltb, sym, refl, subst, if◌then◌else◌, arith}
 use Rattle.std.proofs.lemmas.Bool.{and_parts, false≢true, ltb-true}
-use Rattle.std.proofs.lemmas.List.{get_or_past}
+use Rattle.std.proofs.lemmas.List.{get_or_past, length-append}
 use Rattle.std.specs.declared.hash.Hasher as hasher
 use Rattle.std.specs.declared.hash.BuildHasher as builder
 use Rattle.item_scope.specs.IndexData.{SoundData, no_styles}
 use Rattle.item_scope.specs.declared.index_data.DefMapId.{DefMapId}
 use Rattle.item_scope.specs.contracts.index_data.DefMapIdPartialEq.TheImpl.{eq-value as same_map}
+use Rattle.item_scope.specs.contracts.index_data.DefMapIdLawfulEq.TheImpl.Laws.{eq_is_identity-law as map_law}
 use Rattle.keyed.specs.declared.row.Row.{Row}
-use Rattle.keyed.specs.Entries.{find}
+use Rattle.keyed.specs.Entries.{find, most_rows}
 use Rattle.index_tables.specs.contracts.keys.CrateNamePartialEq.TheImpl.{eq-value as same_crate_name}
 use Rattle.index_tables.specs.contracts.keys.MapNamePartialEq.TheImpl.{eq-value as same_map_name}
 use Rattle.index_tables.specs.contracts.keys.ModuleNamePartialEq.TheImpl.{eq-value as same_module_name}
 use Rattle.index_tables.specs.contracts.keys.EnumNamePartialEq.TheImpl.{eq-value as same_enum_name}
+use Rattle.index_tables.specs.contracts.keys.CrateNameLawfulEq.TheImpl.Laws.{eq_is_identity-law as crate_name_law}
+use Rattle.index_tables.specs.contracts.keys.MapNameLawfulEq.TheImpl.Laws.{eq_is_identity-law as map_name_law}
+use Rattle.index_tables.specs.contracts.keys.ModuleNameLawfulEq.TheImpl.Laws.{eq_is_identity-law as module_name_law}
+use Rattle.index_tables.specs.contracts.keys.EnumNameLawfulEq.TheImpl.Laws.{eq_is_identity-law as enum_name_law}
 use Rattle.index_tables.specs.declared.keys.CrateName.{CrateName}
 use Rattle.index_tables.specs.declared.keys.MapName.{MapName}
 use Rattle.index_tables.specs.declared.keys.ModuleName.{ModuleName}
@@ -42,11 +47,22 @@ module _ {K V : Type 0} (eq : K → K → Bool) (exist : K → V → Bool) (usab
       let rest = parts (earlier ++ r ∷ []) rows (n + 1) p.1 in
       (and_intro _ _ b.0 rest.0, and_intro _ _ b.1 rest.1)
 
-  pub good_rows : (rows taken : List (Row K V)) (n : ℕ) → (first_bad (row_tests eq exist usable [] rows) n ≡ None) × (taken ≡ rows) → GoodRows eq exist taken
-  good_rows rows taken n h =
-      let p = parts [] rows n h.0 in
-      let g : GoodRows eq exist rows = record { numbers = p.0; keys = p.1 } in
-      subst (GoodRows eq exist) (sym h.1) g
+  few_rows : (earlier rows : List (Row K V)) (n : ℕ) → length earlier ≤ usable → first_bad (row_tests eq exist usable earlier rows) n ≡ None → length earlier + length rows ≤ usable
+  few_rows earlier [] n few e = omega (arith, few)
+  few_rows earlier (r ∷ rows) n few e =
+      let p = passed (ltb (length earlier) usable && (exist r.key r.value && not (is_some (find eq earlier r.key)))) (row_tests eq exist usable (earlier ++ r ∷ []) rows) n e in
+      let room : length earlier < usable = ltb-true _ _ (and_parts (ltb (length earlier) usable) _ p.0).0 in
+      let one : length (earlier ++ r ∷ []) ≡ length earlier + 1 = length-append earlier (r ∷ []) in
+      let rest = few_rows (earlier ++ r ∷ []) rows (n + 1) (omega (arith, room, one)) p.1 in
+      omega (arith, rest, one)
+
+pub good_rows : {K V : Type 0} (eq : K → K → Bool) (exist : K → V → Bool) (rows taken : List (Row K V)) (n : ℕ) → (first_bad (row_tests eq exist most_rows [] rows) n ≡ None) × (taken ≡ rows) → GoodRows eq exist taken
+good_rows eq exist rows taken n h =
+    let p = parts eq exist most_rows [] rows n h.0 in
+    let within = few_rows eq exist most_rows [] rows n (omega arith) h.0 in
+    let few : length rows ≤ most_rows = omega (arith, within) in
+    let g : GoodRows eq exist rows = record { numbers = p.0; keys = p.1; few = few } in
+    subst (GoodRows eq exist) (sym h.1) g
 
 -- what is found of a key passes the test that all rows pass
 module _ {K V : Type 0} (eq : K → K → Bool) (exact : (a b : K) → eq a b ≡ true → a ≡ b) (exist : K → V → Bool) where
@@ -61,19 +77,19 @@ module _ {K V : Type 0} (eq : K → K → Bool) (exact : (a b : K) → eq a b �
       ] refl is
 
 exact_crate_name : (a b : CrateName) → same_crate_name.it a b ≡ true → a ≡ b
-exact_crate_name a b e = search rules
+exact_crate_name a b e = (crate_name_law a b).0 e
 
 exact_map_name : (a b : MapName) → same_map_name.it a b ≡ true → a ≡ b
-exact_map_name a b e = search rules
+exact_map_name a b e = (map_name_law a b).0 e
 
 exact_map : (a b : DefMapId) → same_map.it a b ≡ true → a ≡ b
-exact_map a b e = search rules
+exact_map a b e = (map_law a b).0 e
 
 exact_module_name : (a b : ModuleName) → same_module_name.it a b ≡ true → a ≡ b
-exact_module_name a b e = search rules
+exact_module_name a b e = (module_name_law a b).0 e
 
 exact_enum_name : (a b : EnumName) → same_enum_name.it a b ≡ true → a ≡ b
-exact_enum_name a b e = search rules
+exact_enum_name a b e = (enum_name_law a b).0 e
 
 -- rows that keep the rules tell only numbers that exist
 pub sound_data : (r : IndexRows) → GoodIndex r → SoundData (data_from r)

@@ -31,7 +31,7 @@ pub length-row_tests : {K V : Type 0} (eq : K → K → Bool) (exist : K → V �
 length-row_tests eq exist usable earlier [] = refl
 length-row_tests eq exist usable earlier (r ∷ rows) = ap suc (length-row_tests eq exist usable (earlier ++ r ∷ []) rows)
 
-all_there : (n k : ℕ) → first_bad (as_many n n) k ≡ None
+pub all_there : (n k : ℕ) → first_bad (as_many n n) k ≡ None
 all_there zero k = refl
 all_there (suc n) k = all_there n (k + 1)
 

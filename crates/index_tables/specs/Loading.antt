@@ -6,7 +6,8 @@ use Rattle.hir_def.specs.declared.fault.Fault.{Fault}
 use Rattle.hir_def.specs.declared.fault.Fault.TheVariants.{Text, Path, Tree, Index}
 use Rattle.hir_def.specs.declared.fault.TreeFault.{TreeFault}
 use Rattle.hir_def.specs.Faults.{IfRefused}
-use Rattle.nameres.specs.Rows.{Rows, Loads}
+use Rattle.nameres.specs.Shapes.{Rules}
+use Rattle.nameres.specs.Rows.{Rows, Loads, tree_of, row_number}
 use Rattle.item_scope.specs.contracts.index_data.DefMapIdPartialEq.TheImpl.{eq-value as same_map}
 use Rattle.keyed.specs.declared.row.Row.{Row}
 use Rattle.keyed.specs.Entries.{most_rows}
@@ -53,7 +54,7 @@ AnswersLoad r (Err e) = IfRefused (λ f. LoadsIndex r (Err f)) e
 abbrev pub BeginsGood : IndexRows → Type 0
 BeginsGood r = Loads r.tree (Ok tt) × (nat_le r.names 65536 ≡ true)
 
--- tables that keep the rules: every number exists, and no key has two rows
+-- rows that keep the rules: every number exists, no key has two rows, and there are no more than a table uses
 pub record GoodIndex (r : IndexRows) : Type 0 where
   pub few_names : r.names ≤ 65536
   pub extern_prelude : GoodRows same_crate_name.it (extern_prelude_in (counts_of r)) r.extern_prelude
@@ -62,3 +63,13 @@ pub record GoodIndex (r : IndexRows) : Type 0 where
   pub legacy : GoodRows same_module_name.it (legacy_in (counts_of r)) r.legacy
   pub variants : GoodRows same_enum_name.it (variant_in (counts_of r)) r.variants
   pub styles : length r.styles ≡ r.macros
+
+-- tables that keep the rules: those of a tree, and those of the rows
+pub record GoodTables (r : IndexRows) : Type 0 where
+  pub tree : Rules (tree_of r.tree) row_number
+  pub index : GoodIndex r
+
+-- a load accepts exactly the tables that keep the rules; one that wants memory tells nothing of them
+abbrev pub AcceptsGood : {T : Type 0} → IndexRows → Result T (Failure Fault) → Type 0
+AcceptsGood r (Ok t) = GoodTables r
+AcceptsGood r (Err e) = IfRefused (λ f. GoodTables r → ⊥) e

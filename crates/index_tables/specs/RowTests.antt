@@ -1,5 +1,5 @@
 -- Which rows of a table are good, and the first that is not.
-use Rattle.std.specs.Prelude.{◌≡◌, ℕ, zero, suc, ◌+◌, Bool, true, false, not, ◌&&◌, List, [], ◌∷◌, ◌++◌, length, is_some, Some, None, Option, Ok, Err, Result, nat_lt, if◌then◌else◌}
+use Rattle.std.specs.Prelude.{◌≡◌, ◌≤◌, ℕ, zero, suc, ◌+◌, Bool, true, false, not, ◌&&◌, List, [], ◌∷◌, ◌++◌, length, is_some, Some, None, Option, Ok, Err, Result, nat_lt, if◌then◌else◌}
 use Rattle.std.specs.List.{list_all}
 use Rattle.hir_def.specs.declared.fault.Failure.{Failure}
 use Rattle.hir_def.specs.declared.fault.Fault.{Fault}
@@ -8,7 +8,7 @@ use Rattle.hir_def.specs.declared.fault.IndexFault.{IndexFault}
 use Rattle.hir_def.specs.declared.fault.IndexFault.TheVariants.{BadRow}
 use Rattle.hir_def.specs.Faults.{IfRefused}
 use Rattle.keyed.specs.declared.row.Row.{Row}
-use Rattle.keyed.specs.Entries.{Contents, find}
+use Rattle.keyed.specs.Entries.{Contents, find, most_rows}
 
 -- the tests of the rows that follow some earlier ones: a row is good if it is of use to a table, its numbers exist, and no
 -- earlier row has its key
@@ -56,3 +56,4 @@ apart eq earlier (r ∷ rows) = not (is_some (find eq earlier r.key)) && apart e
 pub record GoodRows {K V : Type 0} (eq : K → K → Bool) (exist : K → V → Bool) (rows : List (Row K V)) : Type 0 where
   pub numbers : fitting exist rows ≡ true
   pub keys : apart eq [] rows ≡ true
+  pub few : length rows ≤ most_rows

@@ -6,7 +6,7 @@ ghost use Rattle.nameres.specs.Rows.{rows_of};
 ghost use Rattle.nameres.specs.Tabled.{rows_in as tree_rows_in};
 ghost use Rattle.index_tables.specs.RowTests.{AnswersCount};
 ghost use Rattle.index_tables.specs.IndexRows.{lent_rows, counts_of};
-ghost use Rattle.index_tables.specs.Loading.{AnswersTree, AnswersLoad, BeginsGood, GoodIndex};
+ghost use Rattle.index_tables.specs.Loading.{AnswersTree, AnswersLoad, BeginsGood, GoodIndex, AcceptsGood};
 
 use crate::keys::{CrateName, EnumName, MapName, ModuleName};
 use crate::load_table::load_table;
@@ -24,7 +24,7 @@ use std::alloc::{AllocError, Global};
 use std::hash::{BuildHasher, Hash};
 
 /// No index has more names.
-pub const NAMES: u32 = 65_536;
+pub const MOST_NAMES: u32 = 65_536;
 
 /// The tables of an index beside its places, as the caller lends them.
 #[derive(Clone, Copy, Debug)]
@@ -97,7 +97,7 @@ fn counts_in(tree: &TreeTable, tables: &IndexTables) -> Counts
 fn check_names(names: u32) -> Result<(), IndexFault>
     ensures { result ≡ (if nat_le names 65536 then Ok tt else Err (BadRow 0)) }
 {
-    if names > NAMES {
+    if names > MOST_NAMES {
         return Err(IndexFault::BadRow(0));
     }
     Ok(())
@@ -191,12 +191,13 @@ impl<'a, S: BuildHasher + Copy> LoadedTables<'a, S> {
     /// is not asked for before the tree and the count of names are tested.
     pub fn load(&mut self, alloc: Global, tables: IndexTables<'a>) -> Result<(), Failure<Fault>>
         ensures answers { AnswersLoad (lent_rows tables.entry) result }
-        ensures good { OnOk result (GoodIndex (lent_rows tables.entry)) }
+        ensures accepted { AcceptsGood (lent_rows tables.entry) result }
         ensures holds { OnOk result (rows_in self.new ≡ lent_rows tables.entry) }
         ensures memory { OnMemory result (BeginsGood (lent_rows tables.entry)) }
         ensures untouched { OnErr result (self.new ≡ self.old) }
     {
-        *self = LoadedTables::over(alloc, self.hash_builder, tables)?;
+        let loaded = LoadedTables::over(alloc, self.hash_builder, tables)?;
+        *self = loaded;
         Ok(())
     }
 }

@@ -36,9 +36,6 @@ exact a b e = search rules
 
 -- the entries that came to a place, taken one by one
 module _ {T : Type 0} (space : Space T) (es : List Entry) where
-  pub at_turn : ℕ → Place T
-  at_turn turn = fold (next space) Empty (take turn es)
-
   pub one_more : (turn : ℕ) (e : Entry) → slice_get es turn ≡ Some e → (next space (fold (next space) Empty (take turn es)) e ≡ fold (next space) Empty (take (turn + 1) es)) × (turn + 1 ≤ length es)
   one_more turn e is =
       let l : turn < length es = slice_get_within es turn e is in

@@ -2,4 +2,5 @@ pub mod Stored
 pub mod Tables
 pub mod Ledgers
 pub mod Fresh
+pub mod Held
 pub mod Taken

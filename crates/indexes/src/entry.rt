@@ -1,10 +1,11 @@
 // What rows hold: entries, and of which place.
 ghost use Rattle.std.specs.Hash as fed;
-ghost use Rattle.std.proofs.Common.{ap};
+ghost use Rattle.std.proofs.Common.{ap, rules};
 ghost use Rattle.indexes.specs.Hashed.{number_of, one_number};
 
 use entries::per_ns::{Item, MacrosItem, TypesItem, ValuesItem};
 use entries::visibility::Visibility;
+use hir_def::lawful_eq::LawfulEq;
 use hir_def::{ModuleDefId, ModuleId, Name, Namespace};
 use std::hash::{Hash, Hasher};
 
@@ -14,6 +15,10 @@ pub struct PlaceKey {
     pub namespace: Namespace,
     pub at: ModuleId,
     pub name: Name,
+}
+
+impl LawfulEq for PlaceKey {
+    ghost eq_is_identity = { Prim.search rules };
 }
 
 // The namespace is left out, so that the three places of a name are found in one chain: who asks for one of them asks for

@@ -1,5 +1,6 @@
 // The ledger: an index that keeps a row for each entry that came, and finds a place by replaying its entries.
 ghost use Rattle.std.specs.Prelude.{◌≡◌, min, take, length, refl, IfOk};
+ghost use Rattle.std.proofs.Common.{rules};
 ghost use Rattle.keyed.specs.Entries.{most_rows};
 ghost use Rattle.index_tables.specs.IndexRows.{data_from};
 ghost use Rattle.index_tables.specs.LoadedTables.{no_index_rows};
@@ -11,6 +12,7 @@ use crate::entry::{Entry, FREE_ENTRY, FREE_KEY, PlaceKey};
 use crate::namespaced::{Namespaced, next, place_key};
 use crate::place_rows::PlaceRows;
 use crate::row_index::RowIndex;
+use hir_def::lawful_eq::LawfulEq;
 use hir_def::{ModuleId, Name};
 use item_scope::place::Place;
 use keyed::row::Row;
@@ -23,6 +25,10 @@ use std::hash::BuildHasher;
 pub struct LedgerKey {
     pub place: PlaceKey,
     pub turn: usize,
+}
+
+impl LawfulEq for LedgerKey {
+    ghost eq_is_identity = { Prim.search rules };
 }
 
 /// A row of the ledger: an entry and when it came to which place.

@@ -22,8 +22,8 @@ pub trait Namespaced: Copy {
         ensures { result ≡ space.to self };
 
     // None if it is of another namespace.
-    fn from_entry(entry: Entry) -> Option<Self>
-        ensures { result ≡ space.of entry };
+    fn from_entry(entry: &Entry) -> Option<Self>
+        ensures { result ≡ space.of entry.now };
 
     fn step(place: Place<Self>, new: Self) -> Stepped<Self>
         ensures { result ≡ stepped space.tests place new };
@@ -45,7 +45,7 @@ pub(crate) fn place_key<T: Namespaced>(at: ModuleId, name: Name) -> PlaceKey
 pub(crate) fn next<T: Namespaced>(place: Place<T>, entry: Entry) -> Place<T>
     ensures { result ≡ next T.space place entry }
 {
-    match T::from_entry(entry) {
+    match T::from_entry(&entry) {
         Some(item) => T::step(place, item).place,
         None => place,
     }
@@ -64,11 +64,11 @@ impl Namespaced for TypesItem {
         Entry::Types(self)
     }
 
-    fn from_entry(entry: Entry) -> Option<TypesItem> {
-        match entry {
-            Entry::Types(item) => Some(item),
-            _ => None,
-        }
+    fn from_entry(entry: &Entry) -> Option<TypesItem> {
+        let Entry::Types(item) = entry else {
+            return None;
+        };
+        Some(*item)
     }
 
     fn step(place: Place<TypesItem>, new: TypesItem) -> Stepped<TypesItem>
@@ -91,11 +91,11 @@ impl Namespaced for ValuesItem {
         Entry::Values(self)
     }
 
-    fn from_entry(entry: Entry) -> Option<ValuesItem> {
-        match entry {
-            Entry::Values(item) => Some(item),
-            _ => None,
-        }
+    fn from_entry(entry: &Entry) -> Option<ValuesItem> {
+        let Entry::Values(item) = entry else {
+            return None;
+        };
+        Some(*item)
     }
 
     fn step(place: Place<ValuesItem>, new: ValuesItem) -> Stepped<ValuesItem>
@@ -118,11 +118,11 @@ impl Namespaced for MacrosItem {
         Entry::Macros(self)
     }
 
-    fn from_entry(entry: Entry) -> Option<MacrosItem> {
-        match entry {
-            Entry::Macros(item) => Some(item),
-            _ => None,
-        }
+    fn from_entry(entry: &Entry) -> Option<MacrosItem> {
+        let Entry::Macros(item) = entry else {
+            return None;
+        };
+        Some(*item)
     }
 
     fn step(place: Place<MacrosItem>, new: MacrosItem) -> Stepped<MacrosItem>

@@ -2,6 +2,7 @@
 ghost use Rattle.std.specs.Prelude.{◌≡◌, ◌≤◌, ◌<◌, true, [], ◌++◌, length, Some};
 ghost use Rattle.hir_def.specs.declared.ModuleId.{ModuleId as ModuleNumber};
 ghost use Rattle.item_scope.specs.Deliveries.{count_of, filled};
+ghost use Rattle.item_scope.specs.Places.{holder};
 ghost use Rattle.keyed.specs.Entries.{Contents};
 ghost use Rattle.indexes.specs.declared.entry.Entry.{Entry as AnyEntry};
 ghost use Rattle.indexes.specs.declared.entry.PlaceKey.{PlaceKey as Key};
@@ -28,6 +29,13 @@ pub trait PlaceRows: Drop {
     /// The place, as the steps make it of the entries that came.
     fn place<T: Namespaced>(&self, at: ModuleId, name: Name) -> Place<T>
         ensures { result ≡ told_of storing T.space (contents self.now).entries at name };
+
+    /// The entry that holds the place.
+    fn holder<T: Namespaced>(&self, at: ModuleId, name: Name) -> Option<T>
+        ensures { result ≡ holder (told_of storing T.space (contents self.now).entries at name) }
+    {
+        self.place(at, name).holder()
+    }
 
     /// An entry comes to a place. Whether it is stored there.
     fn put<T: Namespaced>(&mut self, at: ModuleId, name: Name, entry: T) -> bool

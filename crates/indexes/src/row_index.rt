@@ -6,7 +6,7 @@ ghost use Rattle.nameres.specs.Tabled.{rules_in};
 ghost use Rattle.item_scope.specs.Views.{Sound};
 ghost use Rattle.index_tables.specs.IndexRows.{lent_rows, data_from};
 ghost use Rattle.index_tables.specs.LoadedTables.{data_of, no_index_rows};
-ghost use Rattle.index_tables.specs.Loading.{AnswersLoad, BeginsGood};
+ghost use Rattle.index_tables.specs.Loading.{AnswersLoad, AcceptsGood, BeginsGood};
 ghost use Rattle.indexes.specs.Told.{view_of, no_places};
 ghost use Rattle.indexes.specs.Storing.{told, all_free, rows_of, Stores};
 
@@ -55,6 +55,7 @@ impl<'a, R: PlaceRows, S: BuildHasher + Copy> RowIndex<'a, R, S> {
     /// and want of memory leave it as it was.
     pub fn load(&mut self, alloc: Global, tables: IndexTables<'a>) -> Result<(), Failure<Fault>>
         ensures answers { AnswersLoad (lent_rows tables.entry) result }
+        ensures accepted { AcceptsGood (lent_rows tables.entry) result }
         ensures view { OnOk result (view_in self.new ≡ empty_index (data_from (lent_rows tables.entry))) }
         ensures rows { OnOk result (contents_in self.new ≡ all_free (rows_of (contents_in self.old))) }
         ensures left { OnOk result (left_in self.new ≡ length (rows_of (contents_in self.old))) }
@@ -159,6 +160,14 @@ impl<'a, R: PlaceRows, S: BuildHasher> Index for RowIndex<'a, R, S> {
 
     fn macros(&self, m: ModuleId, n: Name) -> Place<MacrosItem> {
         self.rows.place(m, n)
+    }
+
+    fn get(&self, m: ModuleId, n: Name) -> PerNs {
+        PerNs {
+            types: self.rows.holder(m, n),
+            values: self.rows.holder(m, n),
+            macros: self.rows.holder(m, n),
+        }
     }
 
     fn extern_prelude(&self, c: CrateId, n: Name) -> Option<ExternPrelude> {

@@ -56,6 +56,14 @@ impl<'a, S: BuildHasher + Drop> PlaceRows for TableRows<'a, S> {
             .map_or(Place::Empty, |entry| next(Place::Empty, entry))
     }
 
+    // A row holds what holds its place, so no step is asked.
+    #[inline(always)]
+    #[tactic(auto, using(crate::proofs::Held::held_by_row))]
+    fn holder<T: Namespaced>(&self, at: ModuleId, name: Name) -> Option<T> {
+        let entry = self.table.get_ref(place_key::<T>(at, name))?;
+        T::from_entry(entry)
+    }
+
     fn put<T: Namespaced>(&mut self, at: ModuleId, name: Name, entry: T) -> bool {
         let Stepped { changed, .. } = T::step(self.place(at, name), entry);
         if changed {

@@ -1,6 +1,6 @@
 // Places: what a name of a module stands for in one namespace, and what holds it there.
 ghost use Rattle.std.specs.Prelude.{◌≡◌};
-ghost use Rattle.item_scope.specs.Places.{holder, is_empty, is_by_name};
+ghost use Rattle.item_scope.specs.Places.{holder, is_by_name};
 
 /// What holds a place. It is held by name where anything but a glob brought its entry.
 #[derive(Clone, Copy, PartialEq, Eq, Debug)]
@@ -19,13 +19,6 @@ impl<T: Copy> Place<T> {
             Place::Empty => None,
             Place::ByGlob(entry) | Place::ByName(entry) => Some(entry),
         }
-    }
-
-    /// Whether nothing holds the place.
-    pub fn is_empty(self) -> bool
-        ensures { result ≡ is_empty self }
-    {
-        matches!(self, Place::Empty)
     }
 
     /// Whether an entry holds the place that anything but a glob brought.

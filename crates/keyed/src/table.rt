@@ -1,5 +1,6 @@
 // A table from keys to values over rows that the caller lends.
 ghost use Rattle.std.specs.Prelude.{◌≡◌, ◌==◌, ◌<◌, false, ◌++◌, ◌∷◌, ◌↔◌, [], length, take, drop, position, slice_get, is_some, if◌then◌else◌, IsErr, IsTrue, IsNone, IsSome, IfOk, OnOk, OnErr};
+ghost use Rattle.std.specs.Option.{option_map};
 ghost use Rattle.keyed.specs.Entries.{row, find, put, Overwrites, most_rows, next_is_present};
 
 use crate::link::{bucket_of, row_of};
@@ -106,15 +107,23 @@ impl<R: Rows, S: BuildHasher, A: Allocator> Table<R, S, A> {
         row_of(rows, links, heads, self.used, &self.hash_builder, key)
     }
 
-    // Inlined, so that searches for keys with one hash, one after the other, hash once and read the head once.
     /// The value under the key, if the key is there.
     #[inline(always)]
-    #[tactic(auto, using(crate::proofs::Finds::find_tells))]
     pub fn get(&self, key: R::Key) -> Option<R::Value>
         ensures { result ≡ find R.Key.eq self.now.entries key }
     {
+        self.get_ref(key).copied()
+    }
+
+    // Inlined, so that searches for keys with one hash, one after the other, hash once and read the head once.
+    /// The value under the key as it lies in its row, if the key is there.
+    #[inline(always)]
+    #[tactic(auto, using(crate::proofs::Finds::find_tells))]
+    pub fn get_ref(&self, key: R::Key) -> Option<&R::Value>
+        ensures { option_map (λ v. v.now) result ≡ find R.Key.eq self.now.entries key }
+    {
         let index = self.position(key)?;
-        Some(self.rows.as_slice()[index].value)
+        Some(&self.rows.as_slice()[index].value)
     }
 
     /// The next row to be taken in.

@@ -1,2 +1,1 @@
-pub mod Modelling
-pub mod Steps
+pub mod Answered

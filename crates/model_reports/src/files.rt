@@ -3,14 +3,15 @@ ghost use Rattle.std.specs.Prelude.{◌≡◌};
 ghost use Rattle.model_reports.specs.declared.files.ReportError.TheVariants.{Memory, Write};
 
 use crate::indexed::{Lending, write_indexed};
-use firmware::reader::Firmware;
+use file_reader::reader::read_firmware;
+use firmware::file::Firmware;
 use firmware::survey::Survey;
-use firmware::trouble::{Located, Trouble};
 use hir_def::fault::Failure;
 use reports::report::write_heading;
 use reports::style::{Form, Style};
 use std::alloc::{AllocError, AllocFailed, Global};
 use std::io;
+use troubles::trouble::{Located, Trouble};
 
 /// A file as it was read.
 #[derive(Debug, Drop)]
@@ -68,7 +69,7 @@ fn read_all<'a>(
 ) -> Result<Vec<Firmware<'a>>, ReportError<'a>> {
     let mut read = Vec::new(alloc);
     for file in files {
-        match Firmware::read(alloc, file.text.as_slice()) {
+        match read_firmware(alloc, file.text.as_slice()) {
             Ok(firmware) => read.push(firmware)?,
             Err(failure) => return Err(error_of(file, failure)),
         }

@@ -2,32 +2,30 @@
 ghost use Rattle.std.specs.Prelude.{◌≡◌, IfOk, vec_items, map};
 ghost use Rattle.cuts.specs.Asked.{answered_by};
 
-use crate::comparison::Comparison;
-use crate::model_json::{model_account_value, model_path_value, model_value, orders_value};
-use crate::model_run::{MOST_OWN_PLACES, Made, make_model, outcomes_of};
-use crate::model_told::{
-    ComparisonTold, ModelAccount, ModelAccountLine, ModelLine, ModelTold, OrdersLine,
-};
-use crate::parts::{asks_of, items_of};
 use crate::verdict_report::write_verdicts;
 use bstr::BStr;
 use cuts::asked::{Answered, Ask, answer};
 use cuts::reached::Reached;
-use cuts::verdict::Tally;
+use firmware::file::DeliveryStatement;
 use firmware::models::Model;
-use firmware::pile::{Part, Pile};
-use firmware::reader::DeliveryStatement;
+use firmware::pile::Part;
 use firmware::survey::Survey;
 use hir_def::ModuleId;
 use hir_def::fault::Fault;
 use item_scope::index::Index;
+use model_runs::model_run::{Made, make_model, outcomes_of};
+use model_runs::parts::{asks_of, items_of};
+use model_wording::comparison::Comparison;
+use model_wording::model_json::{model_account_value, model_path_value, model_value, orders_value};
+use model_wording::model_told::{
+    ComparisonTold, ModelAccount, ModelAccountLine, ModelLine, ModelTold, OrdersLine,
+};
 use path_resolution::question::{BuiltinShadowMode, Question, ResolveMode};
 use path_text::mod_path::{ModPath, PathKind};
 use paths::show::PathLine;
-use reports::answer_json::{answer_value, refused_path_value};
+use report_json::answer_json::{answer_value, refused_path_value};
+use report_json::json::write_value;
 use reports::answer_report::{write_line, write_refused, write_told};
-use reports::counts::DeliveryCounts;
-use reports::json::write_value;
 use reports::place_report::write_refused_deliveries;
 use reports::report::text_of;
 use reports::style::{Form, Style};
@@ -42,28 +40,6 @@ const NOBODY: Question = Question {
     shadow: BuiltinShadowMode::Other,
     expected_macro_subns: None,
 };
-
-// The model below it in its pile, and how many models the pile has.
-fn below_of(pile: Pile) -> (Option<usize>, usize) {
-    match pile {
-        Pile::One(_) => (None, 1),
-        Pile::Two(below, _) => (Some(below), 2),
-        Pile::Three(_, below, _) => (Some(below), 3),
-    }
-}
-
-fn told<'a>(survey: &Survey<'_, 'a>, model: &Model<'a>) -> ModelTold<'a> {
-    let (below, depth) = below_of(model.pile);
-    let over = match below {
-        Some(below) => survey.firmware.models.get(below).map(|model| model.name),
-        None => None,
-    };
-    ModelTold {
-        name: model.name,
-        over,
-        depth,
-    }
-}
 
 fn write_model_told<W: io::Write>(
     alloc: Global,
@@ -127,7 +103,7 @@ fn made_for<'a, I: Index>(
 }
 
 // Asks the index each path, and says how far it has come.
-#[tactic(auto, using(crate::proofs::Steps::mapped))]
+#[tactic(auto, using(crate::proofs::Answered::mapped))]
 fn answer_all<'s, I: Index, E: io::Write>(
     alloc: Global,
     progress: &mut E,
@@ -274,7 +250,8 @@ pub(crate) fn write_model<'a, I: Index, W: io::Write, E: io::Write>(
         style,
     )?;
     let reached = Reached::of(alloc, &survey.firmware.definitions, answers.as_slice())?;
-    write_model_told(alloc, w, told(survey, model), style.form)?;
+    let told = ModelTold::of(survey.firmware.models.as_slice(), model);
+    write_model_told(alloc, w, told, style.form)?;
     write_comparison(alloc, w, model.name, comparison, style.form)?;
     write_paths(alloc, w, survey, model.name, answers.as_slice(), style.form)?;
     write_refused_deliveries(alloc, w, outcomes.as_slice(), style.form)?;
@@ -287,13 +264,13 @@ pub(crate) fn write_model<'a, I: Index, W: io::Write, E: io::Write>(
         &reached,
         style.form,
     )?;
-    let account = ModelAccount {
-        model: model.name,
-        asked: answers.len(),
-        refused: answers.iter().filter(|a| a.result.is_err()).count(),
-        items: Tally::of(&reached, items.as_slice()),
-        deliveries: DeliveryCounts::of(outcomes.as_slice()),
-        places: MOST_OWN_PLACES.saturating_sub(made.index.left()),
-    };
+    let account = ModelAccount::of(
+        model.name,
+        answers.as_slice(),
+        &reached,
+        items.as_slice(),
+        outcomes.as_slice(),
+        made.index.left(),
+    );
     write_account(alloc, w, account, style.form)
 }

@@ -1,22 +1,13 @@
 // The piles of a file's models, each made anew over the index of the base.
 use crate::model_report::write_model;
 use firmware::models::Model;
-use firmware::pile::{Part, Pile};
+use firmware::pile::Pile;
 use firmware::survey::Survey;
-use item_scope::index::{Index, deliver};
+use item_scope::index::Index;
+use model_runs::model_run::with_model;
 use reports::style::Style;
 use std::alloc::Global;
 use std::io;
-use variants::variant::Variant;
-
-// A variant over the index, with the deliveries of a model.
-fn with_model<'a, I: Index>(survey: &Survey, model: usize, below: &'a I) -> Variant<'a, I> {
-    let mut variant = Variant::new(below);
-    for statement in survey.firmware.deliveries_of(Part::Model(model)) {
-        let _taken = deliver(&mut variant, statement.delivery);
-    }
-    variant
-}
 
 // A pile is at most three deep, so each depth has an arm.
 fn write_pile<'a, I: Index, W: io::Write, E: io::Write>(
@@ -32,12 +23,12 @@ fn write_pile<'a, I: Index, W: io::Write, E: io::Write>(
     match model.pile {
         Pile::One(_) => write_model(alloc, w, progress, path, survey, model, base, style),
         Pile::Two(first, _) => {
-            let first = with_model(survey, first, base);
+            let first = with_model(alloc, survey.firmware, first, base)?;
             write_model(alloc, w, progress, path, survey, model, &first, style)
         }
         Pile::Three(first, second, _) => {
-            let first = with_model(survey, first, base);
-            let second = with_model(survey, second, &first);
+            let first = with_model(alloc, survey.firmware, first, base)?;
+            let second = with_model(alloc, survey.firmware, second, &first)?;
             write_model(alloc, w, progress, path, survey, model, &second, style)
         }
     }

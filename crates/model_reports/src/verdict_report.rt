@@ -1,52 +1,22 @@
 // Writes which items a model keeps, and why, and which it cuts.
-use crate::item_told::{CutLine, CutTold, KeptLine, KeptTold};
-use crate::model_json::{cut_value, kept_value};
-use crate::reason_told::ReasonTold;
 use cuts::reached::{Reached, Reason};
 use cuts::verdict::Verdict;
-use entries::per_ns::{PerNs, TypesItem, macro_entry, value_entry};
 use firmware::survey::Survey;
-use hir_def::{ModuleDefId, Namespace};
-use reports::holders::{Told, entry_holder};
-use reports::json::write_value;
+use hir_def::ModuleDefId;
+use model_wording::item_told::{CutLine, CutTold, KeptLine, KeptTold};
+use model_wording::model_json::{cut_value, kept_value};
+use model_wording::reason_told::ReasonTold;
+use report_json::json::write_value;
 use reports::report::text_of;
 use reports::style::Form;
 use std::alloc::Global;
 use std::io;
-
-// The entry of a namespace, told as one of the types is.
-fn entry_of(entries: &PerNs, namespace: Namespace) -> Option<TypesItem> {
-    match namespace {
-        Namespace::Types => entries.types,
-        Namespace::Values => entries.values.map(value_entry),
-        Namespace::Macros => entries.macros.map(macro_entry),
-    }
-}
+use wording::holders::Told;
 
 fn told<'a>(survey: &Survey<'_, 'a>, def: ModuleDefId) -> Told<'a> {
     Told {
         def,
         definition: survey.firmware.definitions.get(def),
-    }
-}
-
-fn reason_told<'s, 'a: 's>(
-    survey: &Survey<'_, 'a>,
-    path: &'s [u8],
-    reason: &Reason,
-) -> ReasonTold<'s> {
-    let definitions = &survey.firmware.definitions;
-    let namespace = reason.namespace;
-    let place = match entry_of(&reason.entries, namespace) {
-        Some(entry) => definitions.place_of(entry.def, entry.import),
-        None => None,
-    };
-    ReasonTold {
-        path,
-        line: survey.firmware.path_line(reason.path),
-        namespace,
-        holder: entry_holder(definitions, &reason.entries, namespace),
-        place,
     }
 }
 
@@ -65,7 +35,7 @@ fn write_kept<W: io::Write>(
     let text = text_of(alloc, survey.list, path)?;
     let told = KeptTold {
         item: told(survey, item),
-        reason: reason_told(survey, text.as_slice(), reason),
+        reason: ReasonTold::of(survey.firmware, text.as_slice(), reason),
     };
     match form {
         Form::Text => write!(w, "{told}"),

@@ -6,13 +6,13 @@ use hir_def::edition::Edition;
 use hir_def::{BlockId, CrateId, ModuleId};
 
 /// No tree has more modules.
-pub const MODULES: usize = 4096;
+pub const MOST_MODULES: usize = 4096;
 
 /// No tree has more blocks.
-pub const BLOCKS: usize = 1024;
+pub const MOST_BLOCKS: usize = 1024;
 
 /// No tree has more crates.
-pub const CRATES: usize = 64;
+pub const MOST_CRATES: usize = 64;
 
 #[derive(Clone, Copy, Debug)]
 pub struct ModuleRow {
@@ -134,7 +134,7 @@ impl Row for ModuleRow {
     ghost good = { good_module };
 
     fn is_good(&self, tables: &Tables, number: usize) -> bool {
-        number < MODULES
+        number < MOST_MODULES
             && (self.krate.0 as usize) < tables.crates.len()
             && block_exists(tables, self.block)
             && good_parent(tables, number, *self)
@@ -146,7 +146,7 @@ impl Row for BlockRow {
 
     fn is_good(&self, tables: &Tables, number: usize) -> bool {
         let root = tables.module(self.root);
-        number < BLOCKS
+        number < MOST_BLOCKS
             && (self.root.0 as usize) < tables.modules.len()
             && root.block == Some(BlockId(number as u32))
             && root.parent.is_none()
@@ -160,7 +160,7 @@ impl Row for CrateRow {
 
     fn is_good(&self, tables: &Tables, number: usize) -> bool {
         let root = tables.module(self.root);
-        number < CRATES
+        number < MOST_CRATES
             && (self.root.0 as usize) < tables.modules.len()
             && root.krate.0 as usize == number
             && root.block.is_none()

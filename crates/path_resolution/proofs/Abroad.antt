@@ -12,7 +12,7 @@ use Rattle.hir_def.specs.declared.Name.{Name}
 use Rattle.nameres.specs.Shapes.{Shape, Rules, block_exit}
 use Rattle.path_text.specs.declared.mod_path.PathKind.TheVariants.{Super}
 use Rattle.entries.specs.declared.per_ns.PerNs.{PerNs}
-use Rattle.entries.specs.Entries.{kept_all}
+use Rattle.entries.specs.Entries.{of_types, of_both, kept_all}
 use Rattle.entries.specs.Visibilities.{settled}
 use Rattle.entries.proofs.Climbs.{exit-falls, settled_here, settled-exit}
 use Rattle.entries.proofs.Visible.{crate_settled}
@@ -27,11 +27,12 @@ use Rattle.path_resolution.specs.declared.question.Question.{Question}
 use Rattle.path_resolution.specs.declared.remaining_segments.Reached.{Reached}
 use Rattle.path_resolution.specs.declared.single.Asked.{Asked}
 use Rattle.path_resolution.specs.Answers.{no_flags, empty, larger, merged}
-use Rattle.path_resolution.specs.Elsewhere.{no_extern_prelude, no_macro_kind, asked_abroad, from_abroad, AskedElsewhere}
+use Rattle.path_resolution.specs.declared.remaining_segments.Step.TheVariants.{On, Done}
+use Rattle.path_resolution.specs.Elsewhere.{no_extern_prelude, no_macro_kind, asked_abroad, from_abroad, Stands, begins, leads_on, AskedElsewhere}
 use Rattle.path_resolution.specs.Outward.{unasked, turn, joined_to, with_preludes, outward, outward_from}
 use Rattle.path_resolution.specs.Singles.{goes_on, self_asked, super_asked, single_of, preludes_of}
 use Rattle.path_resolution.specs.Starts.{start_at, map_of, climbed, super_of}
-use Rattle.path_resolution.specs.Walks.{sight, foreign, on_step, enum_step_by, def_step, step_by, walk_of}
+use Rattle.path_resolution.specs.Walks.{Sight, sight, foreign, unresolved, on_step, enum_step_by, def_step, type_step, step_by, walk_of}
 use Rattle.path_resolution.proofs.Judged.{settled-out}
 use Rattle.path_resolution.proofs.Going.{outward-turn, outward-end}
 
@@ -90,6 +91,42 @@ module _ (v : View) (from : ModuleId) where
       let rules : Rules v.fixed.tree rank = subst (λ (s : Shape). Rules s rank) (sym tied) ruled in
       rw (held, plain, leads, abroad, or-true r.passed.differing_crate, crate_settled v.fixed.tree rank rules m, eq-eqb (v.fixed.tree.crate_of m).0 (v.fixed.tree.crate_of m).0 refl)
       (let e : i + 1 ≡ 1 + i = omega arith in rw e (shifts ns (first (settled v.fixed.tree m) (v.fixed.tree.crate_of m) n) 1 i))
+
+-- a walk that stands at a module has passed no enum's variant
+module _ (s : Sight) where
+  abbrev Plain : Reached → Type 0
+  Plain r = (it : Types) (m : ModuleId) → r.entries.types ≡ Some it → it.def ≡ def.ModuleId m → r.passed.enum_variant ≡ false
+
+  led-on : (a b : Reached) → On a ≡ On b → a ≡ b
+  led-on a b e = cc
+
+  -- the type of an enum's variant is no module
+  no-module : (b : Bool) (ty : Types) (x : EnumVariant) (it : Types) (m : ModuleId)
+      → (if b then of_both (def.EnumVariantId x.variant) (def.EnumVariantId x.variant) ty.vis None else of_types (def.EnumVariantId x.variant) ty.vis None).types ≡ Some it → it.def ≡ def.ModuleId m → ⊥
+  no-module true ty x it m held leads = absurd (cc)
+  no-module false ty x it m held leads = absurd (cc)
+
+  by-enum : (o : Option EnumVariant) (r : Reached) (ty : Types) (i : ℕ) (there : Reached) → enum_step_by o r ty i ≡ On there → Plain there
+  by-enum None r ty i there e it m held leads = absurd (cc)
+  by-enum (Some x) r ty i there e it m held leads =
+      absurd (no-module x.has_constructor ty x it m (subst (λ (z : Reached). z.entries.types ≡ Some it) (sym (led-on _ there e)) held) leads)
+
+  by-def : (d : ModuleDefId) (r : Reached) (ty : Types) (i : ℕ) (n : Name) (there : Reached) → r.passed.enum_variant ≡ false → def_step s r ty d i n ≡ On there → Plain there
+  by-def (def.ModuleId m) r ty i n there plain e it to held leads = sym (ap (λ (z : Reached). z.passed.enum_variant) (led-on _ there e)) ∙ plain
+  by-def (def.AdtId (adt.EnumId x)) r ty i n there plain e it to held leads = by-enum (s.variant x n) r ty i there e it to held leads
+  by-def _ r ty i n there plain e it to held leads = absurd (cc)
+
+  by-flag : (b : Bool) (r : Reached) (ty : Types) → r.passed.enum_variant ≡ b → (i : ℕ) (n : Name) (there : Reached) → (if b then Done (unresolved r) else type_step s r ty i n) ≡ On there → Plain there
+  by-flag true r ty v i n there e = absurd (cc)
+  by-flag false r ty v i n there e = by-def ty.def r ty i n there v e
+
+  by-type : (o : Option Types) (r : Reached) (i : ℕ) (n : Name) (there : Reached) → step_by s r o i n ≡ On there → Plain there
+  by-type None r i n there e = absurd (cc)
+  by-type (Some ty) r i n there e = by-flag r.passed.enum_variant r ty refl i n there e
+
+  stands-plain : {r : Reached} → Stands s r → Plain r
+  stands-plain begins it m held leads = refl
+  stands-plain (leads_on {r} {next = there} before i n e) it m held leads = by-type r.entries.types r i n there e it m held leads
 
 -- the same but for the status
 record Like (a b : Answer) : Type 0 where
@@ -271,4 +308,4 @@ module _ (v : View) (t : Shape) (rank : ModuleId → ℕ) (q : Question) (ns : L
       (sym (self-there v rank rules-of q ns found (climbed-inner v rank rules-of q ns level (settled v.fixed.tree m) found (settled-out v.fixed.tree rank rules-of m) e)))
 
   pub asked-elsewhere : AskedElsewhere v q ns
-  asked-elsewhere = record { abroad = abroad; outside = outside }
+  asked-elsewhere = record { abroad = abroad; plain = λ r it m stands. stands-plain (sight v q.original_module) stands it m; outside = outside }

@@ -2,6 +2,7 @@ pub mod Abroad
 pub mod Accepted
 pub mod Climbing
 pub mod Existing
+pub mod Filled
 pub mod Going
 pub mod Judged
 pub mod Likewise

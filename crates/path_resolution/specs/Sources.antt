@@ -1,7 +1,7 @@
 -- The sources of a path's first name, and their order.
 use Rattle.std.specs.Prelude.{Bool, true, false, if◌then◌else◌, ◌||◌, List, [], ◌∷◌, is_some, Some, None, Option}
 use Rattle.std.specs.List.{fold}
-use Rattle.std.specs.Option.{option_map, option_map_or}
+use Rattle.std.specs.Option.{option_map, option_map_or, option_or}
 use Rattle.hir_def.specs.declared.MacroId.{MacroId}
 use Rattle.hir_def.specs.declared.ModuleId.{ModuleId}
 use Rattle.hir_def.specs.declared.ModuleDefId.{ModuleDefId}
@@ -82,9 +82,12 @@ is_module None = false
 is_module (Some it) = is_module_def it.def
 
 -- in shadow mode Other a built-in type precedes a module
+abbrev pub precedes : BuiltinShadowMode → Option Types → Bool
+precedes shadow.Module own = false
+precedes shadow.Other own = is_module own
+
 abbrev pub builtin_first : BuiltinShadowMode → PerNs → Bool
-builtin_first shadow.Module own = false
-builtin_first shadow.Other own = is_module own.types
+builtin_first s own = precedes s own.types
 
 abbrev pub is_block_root : Shape → ModuleId → Bool
 is_block_root t m = is_some (block_exit t m)
@@ -107,6 +110,16 @@ sources v q s m n =
     ∷ fitting v x (from_macro_use v d n)
     ∷ skipped_in_block_roots v.fixed.tree m (fitting v x (from_prelude v d q.original_module n))
     ∷ []
+
+-- the same of one namespace, in whose own place stands that entry: of the types, and of the macros without the prelude
+abbrev pub type_in_module : View → BuiltinShadowMode → ModuleId → Name → Option Types → Option Types
+type_in_module v s m n own =
+    let builtin = (from_builtin v.fixed.tree m n).types in
+    option_or (if precedes s own then option_or builtin own else option_or own builtin) (skipped_in_block_roots v.fixed.tree m (from_extern_prelude v m n)).types
+
+abbrev pub macro_in_module : View → Option MacroSubNs → ModuleId → Name → Option Macros → Option Macros
+macro_in_module v x m n own =
+    option_or (option_or (fitting v x (from_legacy v m n)).macros (macro_fitting v x own)) (fitting v x (from_macro_use v (map_of v.fixed.tree m) n)).macros
 
 abbrev pub from_module : View → Question → BuiltinShadowMode → ModuleId → Name → PerNs
 from_module v q s m n = first_filled (sources v q s m n)

@@ -86,14 +86,20 @@ impl ResolvePathResult {
     }
 
     /// This answer, and where it leaves something open the newer one.
-    pub fn merge(self, newer: ResolvePathResult) -> ResolvePathResult
+    pub fn merge(mut self, newer: ResolvePathResult) -> ResolvePathResult
         ensures { result ≡ merged self newer }
     {
-        ResolvePathResult {
-            resolved_def: self.resolved_def.or(newer.resolved_def),
-            segment_index: larger_index(self.segment_index, newer.segment_index),
-            reached_fixedpoint: self.reached_fixedpoint.or(newer.reached_fixedpoint),
-            prefix_info: self.prefix_info.join(newer.prefix_info),
-        }
+        self.join(&newer);
+        self
+    }
+
+    // Merges the newer answer into this one.
+    pub(crate) fn join(&mut self, newer: &ResolvePathResult)
+        ensures { self.new ≡ merged self.old newer.now }
+    {
+        self.resolved_def.fill(&newer.resolved_def);
+        self.segment_index = larger_index(self.segment_index, newer.segment_index);
+        self.reached_fixedpoint = self.reached_fixedpoint.or(newer.reached_fixedpoint);
+        self.prefix_info = self.prefix_info.join(newer.prefix_info);
     }
 }

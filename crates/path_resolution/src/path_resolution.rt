@@ -1,13 +1,15 @@
 // What a path stands for: asked in a module, then outward from block roots, and last in the crate's preludes.
 ghost use Rattle.std.specs.Prelude.{◌≡◌, IfOk};
 ghost use Rattle.path_resolution.specs.Alike.{CratePathsAlike};
+ghost use Rattle.path_resolution.specs.Answers.{merged};
 ghost use Rattle.path_resolution.specs.Elsewhere.{AskedElsewhere};
 ghost use Rattle.path_resolution.specs.Existing.{AnswerExists};
 ghost use Rattle.path_resolution.specs.Judges.{SeeTheSame};
 ghost use Rattle.path_resolution.specs.Order.{InnerFirst, OwnNamesFirst, SourceOrder};
-ghost use Rattle.path_resolution.specs.Outward.{unasked, turn, with_preludes, outward};
+ghost use Rattle.path_resolution.specs.Outward.{joined_to, with_preludes, outward};
 ghost use Rattle.path_resolution.specs.Questions.{level_of, known_crate, first_unknown, refusal_of, answered, pair_answered};
 ghost use Rattle.path_resolution.specs.Shown.{ShowsVisible};
+ghost use Rattle.path_resolution.specs.Singles.{single_of, preludes_of};
 
 use crate::answer::{ReachedFixedPoint, ResolvePathResult};
 use crate::question::{Question, ResolveMode};
@@ -20,58 +22,56 @@ use nameres::block_exit;
 use path_text::mod_path::{ModPath, PathKind};
 
 impl Asked {
-    // Before any module is asked.
-    fn none() -> Asked
-        ensures { result ≡ unasked }
-    {
-        Asked {
-            answer: ResolvePathResult::empty(ReachedFixedPoint::No),
-            is_final: false,
-        }
-    }
-
-    // Asks one more module, unless the answer is final.
+    // Asks one more module.
     fn ask<I: Index>(
-        self,
+        &mut self,
         index: &I,
         question: Question,
         kind: PathKind,
         names: &[Name],
         m: ModuleId,
-    ) -> Asked
-        ensures { result ≡ turn (I.view index.now) question kind names.now self m }
+    )
+        ensures { self.new ≡ joined_to self.old (single_of (I.view index.now) question kind names.now m) }
     {
-        if self.is_final {
-            return self;
-        }
         let newer = resolve_path_fp_with_macro_single(index, question, kind, names, m);
-        Asked {
-            answer: self.answer.merge(newer.answer),
-            ..newer
-        }
+        self.answer.join(&newer.answer);
+        self.is_final = newer.is_final;
     }
 
     // Asks the crate's preludes where the last module asked is in a block, unless the answer is final.
     fn ask_preludes<I: Index>(
-        self,
+        &mut self,
         index: &I,
         question: Question,
         kind: PathKind,
         names: &[Name],
         last: ModuleId,
-    ) -> ResolvePathResult
-        ensures { let v = I.view index.now in
-            result ≡ with_preludes v question kind names.now (v.fixed.tree.block_of last) self }
+    )
+        ensures answer { let v = I.view index.now in
+            self.new.answer ≡ with_preludes v question kind names.now (v.fixed.tree.block_of last) self.old }
+        ensures is_final { self.new.is_final ≡ self.old.is_final }
     {
-        match index.block(last) {
-            Some(block) if !self.is_final => {
-                let root = index.block_root(block);
-                let newer = resolve_path_fp_in_all_preludes(index, question, kind, names, root);
-                self.answer.merge(newer)
-            }
-            _ => self.answer,
+        if let Some(block) = index.block(last)
+            && !self.is_final
+        {
+            let root = index.block_root(block);
+            join_preludes(&mut self.answer, index, question, kind, names, root);
         }
     }
+}
+
+// Merges what the preludes of the crate of `root` answer into an older answer.
+fn join_preludes<I: Index>(
+    answer: &mut ResolvePathResult,
+    index: &I,
+    question: Question,
+    kind: PathKind,
+    names: &[Name],
+    root: ModuleId,
+)
+    ensures { answer.new ≡ merged answer.old (preludes_of (I.view index.now) question kind names.now root) }
+{
+    answer.join(&resolve_path_fp_in_all_preludes(index, question, kind, names, root));
 }
 
 // Asks the module, from block roots their outside modules, and then the preludes.
@@ -83,13 +83,18 @@ fn resolve_outward<I: Index>(
 ) -> ResolvePathResult
     ensures { result ≡ outward (I.view index.now) question kind names.now question.original_module }
 {
-    let mut asked = Asked::none();
     let mut here = question.original_module;
+    let mut asked = resolve_path_fp_with_macro_single(index, question, kind, names, here);
     'outward: loop {
-        asked = asked.ask(index, question, kind, names, here);
         match block_exit(index, here) {
-            Some(outside) => here = outside,
-            None => return asked.ask_preludes(index, question, kind, names, here),
+            Some(outside) if !asked.is_final => {
+                here = outside;
+                asked.ask(index, question, kind, names, here);
+            }
+            _ => {
+                asked.ask_preludes(index, question, kind, names, here);
+                return asked.answer;
+            }
         }
     }
 }

@@ -27,8 +27,8 @@ pub(crate) enum Step {
 
 impl Reached {
     // The whole path is resolved.
-    fn whole(self) -> ResolvePathResult
-        ensures { result ≡ whole self }
+    pub(crate) fn whole(&self) -> ResolvePathResult
+        ensures { result ≡ whole self.now }
     {
         ResolvePathResult {
             resolved_def: self.entries,
@@ -39,8 +39,8 @@ impl Reached {
     }
 
     // Names are left, and there is no type. In another crate no item can come any more.
-    fn unresolved(self) -> ResolvePathResult
-        ensures { result ≡ unresolved self }
+    fn unresolved(&self) -> ResolvePathResult
+        ensures { result ≡ unresolved self.now }
     {
         let differing_crate = self.passed.differing_crate;
         ResolvePathResult {
@@ -58,8 +58,8 @@ impl Reached {
     }
 
     // The type stays, and the names from the `i`-th on are left.
-    fn stopped(self, ty: TypesItem, i: usize) -> ResolvePathResult
-        ensures { result ≡ stopped self ty i }
+    fn stopped(&self, ty: &TypesItem, i: usize) -> ResolvePathResult
+        ensures { result ≡ stopped self.now ty.now i }
     {
         ResolvePathResult {
             resolved_def: PerNs::types(ty.def, ty.vis, ty.import),
@@ -70,8 +70,8 @@ impl Reached {
     }
 }
 
-fn variant_entries(ty: TypesItem, variant: EnumVariant) -> PerNs
-    ensures { result ≡ variant_of ty variant }
+fn variant_entries(ty: &TypesItem, variant: EnumVariant) -> PerNs
+    ensures { result ≡ variant_of ty.now variant }
 {
     let def = ModuleDefId::EnumVariantId(variant.variant);
     if variant.has_constructor {
@@ -85,11 +85,11 @@ fn variant_entries(ty: TypesItem, variant: EnumVariant) -> PerNs
 fn module_step<I: Index>(
     index: &I,
     judge: ModuleId,
-    at: Reached,
+    at: &Reached,
     m: ModuleId,
     name: Name,
 ) -> Reached
-    ensures { result ≡ module_step (sight (I.view index.now) judge) at m name }
+    ensures { result ≡ module_step (sight (I.view index.now) judge) at.now m name }
 {
     let krate = index.krate(m);
     let is_foreign = krate != at.krate;
@@ -98,8 +98,10 @@ fn module_step<I: Index>(
     } else {
         m
     };
+    let mut entries = index.get(asked, name);
+    entries.filter_visibility(index, judge);
     Reached {
-        entries: index.get(asked, name).filter_visibility(index, judge),
+        entries,
         krate,
         passed: ResolvePathResultPrefixInfo {
             differing_crate: at.passed.differing_crate || is_foreign,
@@ -111,22 +113,22 @@ fn module_step<I: Index>(
 // A variant ends a path; of an enum without that variant the type stays.
 fn enum_step<I: Index>(
     index: &I,
-    at: Reached,
-    ty: TypesItem,
+    at: &Reached,
+    ty: &TypesItem,
     e: EnumId,
     i: usize,
     name: Name,
 ) -> Step
-    ensures { result ≡ enum_step_by ((I.view index.now).fixed.variant e name) at ty i }
+    ensures { result ≡ enum_step_by ((I.view index.now).fixed.variant e name) at.now ty.now i }
 {
     match index.enum_variant(e, name) {
         Some(variant) => Step::On(Reached {
             entries: variant_entries(ty, variant),
+            krate: at.krate,
             passed: ResolvePathResultPrefixInfo {
                 enum_variant: true,
                 ..at.passed
             },
-            ..at
         }),
         None => Step::Done(at.stopped(ty, i)),
     }
@@ -135,12 +137,12 @@ fn enum_step<I: Index>(
 fn type_step<I: Index>(
     index: &I,
     judge: ModuleId,
-    at: Reached,
-    ty: TypesItem,
+    at: &Reached,
+    ty: &TypesItem,
     i: usize,
     name: Name,
 ) -> Step
-    ensures { result ≡ type_step (sight (I.view index.now) judge) at ty i name }
+    ensures { result ≡ type_step (sight (I.view index.now) judge) at.now ty.now i name }
 {
     match ty.def {
         ModuleDefId::ModuleId(m) => Step::On(module_step(index, judge, at, m, name)),
@@ -150,10 +152,10 @@ fn type_step<I: Index>(
 }
 
 // The `i`-th name, asked of the type so far.
-fn next_step<I: Index>(index: &I, judge: ModuleId, at: Reached, i: usize, name: Name) -> Step
-    ensures { result ≡ step_of (sight (I.view index.now) judge) at i name }
+fn next_step<I: Index>(index: &I, judge: ModuleId, at: &Reached, i: usize, name: Name) -> Step
+    ensures { result ≡ step_of (sight (I.view index.now) judge) at.now i name }
 {
-    match at.entries.types {
+    match &at.entries.types {
         Some(ty) if !at.passed.enum_variant => type_step(index, judge, at, ty, i, name),
         _ => Step::Done(at.unresolved()),
     }
@@ -163,16 +165,15 @@ fn next_step<I: Index>(index: &I, judge: ModuleId, at: Reached, i: usize, name: 
 pub(crate) fn resolve_remaining_segments<I: Index>(
     index: &I,
     judge: ModuleId,
-    start: Reached,
+    mut at: Reached,
     first: usize,
     names: &[Name],
 ) -> ResolvePathResult
     requires { first ≤ 1 }
-    ensures { result ≡ walk_of (sight (I.view index.now) judge) start first names.now }
+    ensures { result ≡ walk_of (sight (I.view index.now) judge) at first names.now }
 {
-    let mut at = start;
     for (k, name) in names.iter().enumerate() {
-        match next_step(index, judge, at, first + k, *name) {
+        match next_step(index, judge, &at, first + k, *name) {
             Step::On(next) => at = next,
             Step::Done(answer) => return answer,
         }

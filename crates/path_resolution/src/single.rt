@@ -1,6 +1,8 @@
 // A path asked in one module, and in the preludes of a crate, without what is asked further outward.
-ghost use Rattle.std.specs.Prelude.{◌≡◌};
-ghost use Rattle.path_resolution.specs.Sources.{from_extern_prelude};
+ghost use Rattle.std.specs.Prelude.{◌≡◌, Some};
+ghost use Rattle.path_resolution.specs.Sources.{from_extern_prelude, from_crate_root};
+ghost use Rattle.path_resolution.specs.Answers.{empty};
+ghost use Rattle.path_resolution.specs.Starts.{super_of};
 ghost use Rattle.path_resolution.specs.Singles.{goes_on, as_2015, shadow_of, present, first_of, preludes_first, settles, named_by, single_named, super_asked, self_asked, root_asked, single_of, preludes_of};
 
 use crate::answer::{ReachedFixedPoint, ResolvePathResult};
@@ -32,6 +34,12 @@ impl Asked {
             answer,
             is_final: false,
         }
+    }
+
+    fn empty(reached_fixedpoint: ReachedFixedPoint) -> Asked
+        ensures { result ≡ goes_on (empty reached_fixedpoint) }
+    {
+        Asked::goes_on(ResolvePathResult::empty(reached_fixedpoint))
     }
 }
 
@@ -70,6 +78,13 @@ fn shadow_of(shadow: BuiltinShadowMode, further: &[Name]) -> BuiltinShadowMode
     }
 }
 
+// The first name's entries as edition 2015 takes it.
+fn first_of_2015<I: Index>(index: &I, m: ModuleId, name: Name) -> Option<PerNs>
+    ensures { result ≡ Some (from_crate_root (I.view index.now) m name) }
+{
+    Some(resolve_name_in_crate_root_or_extern_prelude(index, m, name))
+}
+
 // The first name's entries; none where `::` has no such crate.
 fn first_of<I: Index>(
     index: &I,
@@ -82,15 +97,13 @@ fn first_of<I: Index>(
     ensures { result ≡ first_of (I.view index.now) question kind m name further.now }
 {
     if is_as_2015(index, question, kind, m) {
-        return Some(resolve_name_in_crate_root_or_extern_prelude(index, m, name));
+        return first_of_2015(index, m, name);
     }
-    match kind {
-        PathKind::Abs => resolve_path_abs(index, m, name),
-        _ => {
-            let shadow = shadow_of(question.shadow, further);
-            Some(resolve_name_in_module(index, question, shadow, m, name))
-        }
+    if kind == PathKind::Abs {
+        return resolve_path_abs(index, m, name);
     }
+    let shadow = shadow_of(question.shadow, further);
+    Some(resolve_name_in_module(index, question, shadow, m, name))
 }
 
 // The same in the crate's preludes alone.
@@ -112,33 +125,29 @@ fn preludes_first<I: Index>(
     }
 }
 
-// The answer where the first name of a path asked in `m` has those entries.
+// The answer where the first name of a path asked in `m` has those entries. A path of one name needs no walk.
+#[tactic(auto, unfolding(crate::specs::Walks::walk_of))]
 fn resolve_further<I: Index>(
     index: &I,
     judge: ModuleId,
     m: ModuleId,
-    first: Option<PerNs>,
+    first: &PerNs,
     further: &[Name],
 ) -> ResolvePathResult
-    ensures { result ≡ named_by (I.view index.now) judge m first further.now }
+    ensures { result ≡ named_by (I.view index.now) judge m (Some first.now) further.now }
 {
-    match first {
-        Some(entries) => {
-            let start = begin(index, m, entries);
-            resolve_remaining_segments(index, judge, start, 1, further)
-        }
-        None => ResolvePathResult::empty(ReachedFixedPoint::No),
+    let start = begin(index, m, *first);
+    if further.is_empty() {
+        return start.whole();
     }
+    resolve_remaining_segments(index, judge, start, 1, further)
 }
 
 // A plain path of several names asks no further once its first name has a type.
-fn settles(kind: PathKind, first: Option<PerNs>, further: &[Name]) -> bool
-    ensures { result ≡ settles kind first further.now }
+fn settles(kind: PathKind, first: &PerNs, further: &[Name]) -> bool
+    ensures { result ≡ settles kind (Some first.now) further.now }
 {
-    match (kind, first, further) {
-        (PathKind::Plain, Some(entries), [_, ..]) => entries.types.is_some(),
-        _ => false,
-    }
+    kind == PathKind::Plain && !further.is_empty() && first.types.is_some()
 }
 
 // A plain or a `::` path.
@@ -151,15 +160,15 @@ fn single_named<I: Index>(
 ) -> Asked
     ensures { result ≡ single_named (I.view index.now) question kind names.now m }
 {
-    match names {
-        [] => Asked::goes_on(ResolvePathResult::empty(ReachedFixedPoint::Yes)),
-        [name, further @ ..] => {
-            let first = first_of(index, question, kind, m, *name, further);
-            Asked {
-                answer: resolve_further(index, question.original_module, m, first, further),
-                is_final: settles(kind, first, further),
-            }
-        }
+    let [name, further @ ..] = names else {
+        return Asked::empty(ReachedFixedPoint::Yes);
+    };
+    let Some(first) = first_of(index, question, kind, m, *name, further) else {
+        return Asked::empty(ReachedFixedPoint::No);
+    };
+    Asked {
+        answer: resolve_further(index, question.original_module, m, &first, further),
+        is_final: settles(kind, &first, further),
     }
 }
 
@@ -202,17 +211,33 @@ fn super_asked<I: Index>(
     }
 }
 
-fn root_asked<I: Index>(
+// A path that begins with `super` or `self`.
+fn super_named<I: Index>(
     index: &I,
     judge: ModuleId,
+    level: u32,
     names: &[Name],
     m: ModuleId,
+) -> Asked
+    ensures { let v = I.view index.now in
+        result ≡ goes_on (super_asked v judge names.now m (super_of v.fixed.tree level m)) }
+{
+    let found = super_of(index, level, m);
+    Asked::goes_on(super_asked(index, judge, names, m, found))
+}
+
+// A path that begins with a crate.
+fn root_named<I: Index>(
+    index: &I,
+    judge: ModuleId,
     krate: CrateId,
-) -> ResolvePathResult
-    ensures { result ≡ root_asked (I.view index.now) judge names.now m krate }
+    names: &[Name],
+    m: ModuleId,
+) -> Asked
+    ensures { result ≡ goes_on (root_asked (I.view index.now) judge names.now m krate) }
 {
     let start = start_at(index, m, index.crate_root(krate));
-    resolve_remaining_segments(index, judge, start, 0, names)
+    Asked::goes_on(resolve_remaining_segments(index, judge, start, 0, names))
 }
 
 /// The answer of the module `m` alone.
@@ -229,14 +254,9 @@ pub(crate) fn resolve_path_fp_with_macro_single<I: Index>(
     let judge = question.original_module;
     match kind {
         PathKind::Plain | PathKind::Abs => single_named(index, question, kind, names, m),
-        PathKind::Crate => Asked::goes_on(root_asked(index, judge, names, m, index.krate(m))),
-        PathKind::DollarCrate(krate) => {
-            Asked::goes_on(root_asked(index, judge, names, m, krate))
-        }
-        PathKind::Super(level) => {
-            let found = super_of(index, level, m);
-            Asked::goes_on(super_asked(index, judge, names, m, found))
-        }
+        PathKind::Crate => root_named(index, judge, index.krate(m), names, m),
+        PathKind::DollarCrate(krate) => root_named(index, judge, krate, names, m),
+        PathKind::Super(level) => super_named(index, judge, level, names, m),
     }
 }
 
@@ -253,8 +273,10 @@ pub(crate) fn resolve_path_fp_in_all_preludes<I: Index>(
 {
     match (kind, names) {
         (PathKind::Plain | PathKind::Abs, [name, further @ ..]) => {
-            let first = preludes_first(index, question, kind, m, *name);
-            resolve_further(index, m, m, first, further)
+            match preludes_first(index, question, kind, m, *name) {
+                Some(first) => resolve_further(index, m, m, &first, further),
+                None => ResolvePathResult::empty(ReachedFixedPoint::No),
+            }
         }
         _ => ResolvePathResult::empty(ReachedFixedPoint::Yes),
     }

@@ -1,10 +1,11 @@
 // The sources of a path's first name, in their order.
 ghost use Rattle.std.specs.Prelude.{◌≡◌};
-ghost use Rattle.path_resolution.specs.Sources.{fits, fitting, from_legacy, from_builtin, from_extern_prelude, from_macro_use, from_prelude, from_preludes, builtin_first, is_block_root, from_module, from_crate_root};
+ghost use Rattle.path_resolution.specs.Sources.{fits, macro_fitting, fitting, from_legacy, from_builtin, from_extern_prelude, from_macro_use, from_prelude, from_preludes, precedes, is_block_root, skipped_in_block_roots, type_in_module, macro_in_module, from_module, from_crate_root};
+ghost use Rattle.path_resolution.specs.Starts.{map_of};
 
 use crate::question::{BuiltinShadowMode, MacroSubNs, Question};
 use crate::starts::map_of;
-use entries::per_ns::PerNs;
+use entries::per_ns::{Item, MacrosItem, PerNs, TypesItem};
 use entries::visibility::Visibility;
 use hir_def::builtin_type::BuiltinType;
 use hir_def::import::ImportOrExternCrate;
@@ -25,53 +26,55 @@ fn sub_namespace_match<I: Index>(index: &I, expected: Option<MacroSubNs>, def: M
     }
 }
 
-// The entries without a macro of another kind.
-fn filter_macro<I: Index>(index: &I, expected: Option<MacroSubNs>, entries: PerNs) -> PerNs
-    ensures { result ≡ fitting (I.view index.now) expected entries }
+// A macro of another kind counts as none.
+fn filter_macro<I: Index>(
+    index: &I,
+    expected: Option<MacroSubNs>,
+    entry: Option<MacrosItem>,
+) -> Option<MacrosItem>
+    ensures { result ≡ macro_fitting (I.view index.now) expected entry }
 {
-    PerNs {
-        macros: entries
-            .macros
-            .filter(|it| sub_namespace_match(index, expected, it.def)),
-        ..entries
-    }
+    entry.filter(|it| sub_namespace_match(index, expected, it.def))
 }
 
-fn resolve_in_legacy_scope<I: Index>(index: &I, m: ModuleId, name: Name) -> PerNs
-    ensures { result ≡ from_legacy (I.view index.now) m name }
+fn resolve_in_legacy_scope<I: Index>(
+    index: &I,
+    expected: Option<MacroSubNs>,
+    m: ModuleId,
+    name: Name,
+) -> Option<MacrosItem>
+    ensures { let v = I.view index.now in result ≡ (fitting v expected (from_legacy v m name)).macros }
 {
-    index.legacy_macro(m, name).map_or(
-        PerNs::none(),
-        |def| PerNs::macros(def, Visibility::Public, None),
-    )
+    let legacy = index.legacy_macro(m, name).map(|def| Item {
+        def,
+        vis: Visibility::Public,
+        import: None,
+    });
+    filter_macro(index, expected, legacy)
 }
 
 // A built-in type is found in no block's map.
-fn resolve_in_builtin_scope<T: Tree>(tree: &T, m: ModuleId, name: Name) -> PerNs
-    ensures { result ≡ from_builtin (T.shape tree.now) m name }
+fn resolve_in_builtin_scope<T: Tree>(tree: &T, m: ModuleId, name: Name) -> Option<TypesItem>
+    ensures { result ≡ (from_builtin (T.shape tree.now) m name).types }
 {
     if tree.block(m).is_some() {
-        return PerNs::none();
+        return None;
     }
-    BuiltinType::by_name(name).map_or(
-        PerNs::none(),
-        |ty| PerNs::types(ModuleDefId::BuiltinType(ty), Visibility::Public, None),
-    )
+    BuiltinType::by_name(name).map(|ty| Item {
+        def: ModuleDefId::BuiltinType(ty),
+        vis: Visibility::Public,
+        import: None,
+    })
 }
 
-/// What a name means in the extern prelude of `m`'s crate.
-pub(crate) fn resolve_name_in_extern_prelude<I: Index>(index: &I, m: ModuleId, name: Name) -> PerNs
-    ensures { result ≡ from_extern_prelude (I.view index.now) m name }
+fn type_in_extern_prelude<I: Index>(index: &I, m: ModuleId, name: Name) -> Option<TypesItem>
+    ensures { result ≡ (from_extern_prelude (I.view index.now) m name).types }
 {
-    index
-        .extern_prelude(index.krate(m), name)
-        .map_or(PerNs::none(), |it| {
-            PerNs::types(
-                ModuleDefId::ModuleId(it.module),
-                Visibility::Public,
-                it.extern_crate.map(ImportOrExternCrate::ExternCrate),
-            )
-        })
+    index.extern_prelude(index.krate(m), name).map(|it| Item {
+        def: ModuleDefId::ModuleId(it.module),
+        vis: Visibility::Public,
+        import: it.extern_crate.map(ImportOrExternCrate::ExternCrate),
+    })
 }
 
 fn resolve_in_macro_use_prelude<I: Index>(
@@ -79,17 +82,25 @@ fn resolve_in_macro_use_prelude<I: Index>(
     expected: Option<MacroSubNs>,
     map: DefMapId,
     name: Name,
-) -> PerNs
-    ensures { let v = I.view index.now in result ≡ fitting v expected (from_macro_use v map name) }
+) -> Option<MacrosItem>
+    ensures { let v = I.view index.now in result ≡ (fitting v expected (from_macro_use v map name)).macros }
 {
-    let entries = index.macro_use(map, name).map_or(PerNs::none(), |it| {
-        PerNs::macros(
-            it.def,
-            Visibility::Public,
-            it.extern_crate.map(ImportOrExternCrate::ExternCrate),
-        )
+    let used = index.macro_use(map, name).map(|it| Item {
+        def: it.def,
+        vis: Visibility::Public,
+        import: it.extern_crate.map(ImportOrExternCrate::ExternCrate),
     });
-    filter_macro(index, expected, entries)
+    filter_macro(index, expected, used)
+}
+
+/// What a name means in the extern prelude of `m`'s crate.
+pub(crate) fn resolve_name_in_extern_prelude<I: Index>(index: &I, m: ModuleId, name: Name) -> PerNs
+    ensures { result ≡ from_extern_prelude (I.view index.now) m name }
+{
+    PerNs {
+        types: type_in_extern_prelude(index, m, name),
+        ..PerNs::none()
+    }
 }
 
 // Of a prelude module's entries those that the judge may see.
@@ -102,11 +113,13 @@ fn resolve_in_prelude<I: Index>(
 ) -> PerNs
     ensures { let v = I.view index.now in result ≡ fitting v expected (from_prelude v map judge name) }
 {
-    let visible = index.prelude(map).map_or(
-        PerNs::none(),
-        |prelude| index.get(prelude, name).filter_visibility(index, judge),
-    );
-    filter_macro(index, expected, visible)
+    let Some(prelude) = index.prelude(map) else {
+        return PerNs::none();
+    };
+    let mut entries = index.get(prelude, name);
+    entries.filter_visibility(index, judge);
+    entries.macros = filter_macro(index, expected, entries.macros);
+    entries
 }
 
 /// The name in the preludes of the crate of `m`, which also judges who may see.
@@ -119,11 +132,12 @@ pub(crate) fn resolve_name_in_all_preludes<I: Index>(
     ensures { result ≡ from_preludes (I.view index.now) expected m name }
 {
     let map = DefMapId::Crate(index.krate(m));
-    let from_macro_use = resolve_in_macro_use_prelude(index, expected, map, name);
-    let from_prelude = resolve_in_prelude(index, expected, map, m, name);
-    resolve_name_in_extern_prelude(index, m, name)
-        .or(from_macro_use)
-        .or(from_prelude)
+    let prelude = resolve_in_prelude(index, expected, map, m, name);
+    PerNs {
+        types: type_in_extern_prelude(index, m, name).or(prelude.types),
+        values: prelude.values,
+        macros: resolve_in_macro_use_prelude(index, expected, map, name).or(prelude.macros),
+    }
 }
 
 fn is_block_root<T: Tree>(tree: &T, m: ModuleId) -> bool
@@ -132,18 +146,83 @@ fn is_block_root<T: Tree>(tree: &T, m: ModuleId) -> bool
     block_exit(tree, m).is_some()
 }
 
-// In shadow mode Other a built-in type precedes a module.
-fn builtin_first(shadow: BuiltinShadowMode, from_scope: PerNs) -> bool
-    ensures { result ≡ builtin_first shadow from_scope }
+// A block's root skips the extern prelude.
+fn extern_prelude<I: Index>(index: &I, m: ModuleId, name: Name) -> Option<TypesItem>
+    ensures { let v = I.view index.now in
+        result ≡ (skipped_in_block_roots v.fixed.tree m (from_extern_prelude v m name)).types }
 {
-    match (shadow, from_scope.types) {
+    if is_block_root(index, m) {
+        return None;
+    }
+    type_in_extern_prelude(index, m, name)
+}
+
+// A block's root skips the prelude too.
+fn prelude<I: Index>(index: &I, question: Question, m: ModuleId, name: Name) -> PerNs
+    ensures { let v = I.view index.now in let t = v.fixed.tree in
+        result ≡ skipped_in_block_roots t m (fitting v question.expected_macro_subns (from_prelude v (map_of t m) question.original_module name)) }
+{
+    if is_block_root(index, m) {
+        return PerNs::none();
+    }
+    let expected = question.expected_macro_subns;
+    resolve_in_prelude(
+        index,
+        expected,
+        map_of(index, m),
+        question.original_module,
+        name,
+    )
+}
+
+// In shadow mode Other a built-in type precedes a module.
+fn builtin_first(shadow: BuiltinShadowMode, from_scope: &Option<TypesItem>) -> bool
+    ensures { result ≡ precedes shadow from_scope.now }
+{
+    match (shadow, from_scope) {
         (BuiltinShadowMode::Other, Some(it)) => matches!(it.def, ModuleDefId::ModuleId(_)),
         _ => false,
     }
 }
 
-/// The first name of a plain path, asked in `m`: in each namespace from the first source that has it. A block's root skips the
-/// extern prelude and the prelude.
+// Where a module's own places have no type, or a built-in type goes first: the built-in type, else that of the extern prelude.
+fn fill_type<I: Index>(
+    index: &I,
+    shadow: BuiltinShadowMode,
+    m: ModuleId,
+    name: Name,
+    from_scope: &mut Option<TypesItem>,
+)
+    ensures { let v = I.view index.now in from_scope.new ≡ type_in_module v shadow m name from_scope.old }
+{
+    if from_scope.is_some() && !builtin_first(shadow, from_scope) {
+        return;
+    }
+    let from_builtin = resolve_in_builtin_scope(index, m, name);
+    if from_builtin.is_some() {
+        *from_scope = from_builtin;
+    } else if from_scope.is_none() {
+        *from_scope = extern_prelude(index, m, name);
+    }
+}
+
+// The legacy macro, else that of a module's own places, else that of the macro-use prelude.
+fn macro_in_module<I: Index>(
+    index: &I,
+    expected: Option<MacroSubNs>,
+    m: ModuleId,
+    name: Name,
+    from_scope: Option<MacrosItem>,
+) -> Option<MacrosItem>
+    ensures { let v = I.view index.now in result ≡ macro_in_module v expected m name from_scope }
+{
+    resolve_in_legacy_scope(index, expected, m, name)
+        .or(filter_macro(index, expected, from_scope))
+        .or(resolve_in_macro_use_prelude(index, expected, map_of(index, m), name))
+}
+
+/// The first name of a plain path, asked in `m`: in each namespace from the first source that has it.
+#[tactic(auto, using(crate::proofs::Filled::module_filled))]
 pub(crate) fn resolve_name_in_module<I: Index>(
     index: &I,
     question: Question,
@@ -154,33 +233,11 @@ pub(crate) fn resolve_name_in_module<I: Index>(
     ensures { result ≡ from_module (I.view index.now) question shadow m name }
 {
     let expected = question.expected_macro_subns;
-    let map = map_of(index, m);
-    let is_block_root = is_block_root(index, m);
-    let from_legacy_macro = filter_macro(index, expected, resolve_in_legacy_scope(index, m, name));
-    let from_scope = filter_macro(index, expected, index.get(m, name));
-    let from_builtin = resolve_in_builtin_scope(index, m, name);
-    let (first, second) = if builtin_first(shadow, from_scope) {
-        (from_builtin, from_scope)
-    } else {
-        (from_scope, from_builtin)
-    };
-    let extern_prelude = if is_block_root {
-        PerNs::none()
-    } else {
-        resolve_name_in_extern_prelude(index, m, name)
-    };
-    let macro_use_prelude = resolve_in_macro_use_prelude(index, expected, map, name);
-    let prelude = if is_block_root {
-        PerNs::none()
-    } else {
-        resolve_in_prelude(index, expected, map, question.original_module, name)
-    };
-    from_legacy_macro
-        .or(first)
-        .or(second)
-        .or(extern_prelude)
-        .or(macro_use_prelude)
-        .or(prelude)
+    let mut found = index.get(m, name);
+    fill_type(index, shadow, m, name, &mut found.types);
+    found.macros = macro_in_module(index, expected, m, name, found.macros);
+    found.fill(&prelude(index, question, m, name));
+    found
 }
 
 /// The first name as edition 2015 takes it: in the crate's root, and then in the extern prelude unless a block's root asks.
@@ -193,9 +250,8 @@ pub(crate) fn resolve_name_in_crate_root_or_extern_prelude<I: Index>(
 {
     let root = index.crate_root(index.krate(m));
     let from_crate_root = index.get(root, name);
-    if is_block_root(index, m) {
-        from_crate_root
-    } else {
-        from_crate_root.or(resolve_name_in_extern_prelude(index, m, name))
+    PerNs {
+        types: from_crate_root.types.or(extern_prelude(index, m, name)),
+        ..from_crate_root
     }
 }

@@ -1,3 +1,1 @@
-pub mod Modules
-pub mod Ranges
 pub mod Receiving

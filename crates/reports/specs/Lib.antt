@@ -1,13 +1,2 @@
-pub mod Ranges
-pub mod Shown
-pub mod Counts
-pub mod Outcomes
-pub mod Holders
-pub mod Places
-pub mod Told
-pub mod Json
-pub mod PlaceJson
-pub mod Answers
-pub mod AnswerJson
 pub mod Written
 pub mod Receiving

@@ -3,7 +3,7 @@ use Rattle.std.specs.Prelude.{◌≡◌, ◌==◌, ◌&&◌, Bool, true, List, A
 use Rattle.std.specs.declared.cmp.Ordering.{Ordering}
 use Rattle.std.specs.Ordering.{nat_cmp, ordering_then}
 use Rattle.std.specs.List.Sorted.{IsStrictlySortedBy}
-use Rattle.firmware.specs.declared.reader.DeliveryStatement.{DeliveryStatement}
+use Rattle.firmware.specs.declared.file.DeliveryStatement.{DeliveryStatement}
 
 -- by modules, and in a module by names
 abbrev pub place_cmp : DeliveryStatement → DeliveryStatement → Ordering

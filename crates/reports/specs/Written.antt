@@ -1,23 +1,17 @@
--- A JSON value as a line, what is written of a file before its report, and of the answer to a path.
+-- What is written of a file before its report, and of the answer to a path.
 use Rattle.std.specs.Prelude.{ℕ, List, ◌++◌, Some, None, Option, length, codes, vec_items}
 use Rattle.hir_def.specs.declared.Name.{Name}
 use Rattle.hir_def.specs.declared.Namespace.TheVariants as namespace
 use Rattle.firmware.specs.declared.survey.Survey.{Survey}
 use Rattle.index_tables.specs.LoadedTables.{rows_in}
-use Rattle.serde_json.specs.Data.{Data}
-use Rattle.serde_json.specs.Written.{compact_text}
 use Rattle.reports.specs.declared.style.Form.{Form}
 use Rattle.reports.specs.declared.style.Form.TheVariants.{Text, Lines, Json}
 use Rattle.path_resolution.specs.declared.answer.ResolvePathResult.{ResolvePathResult}
 use Rattle.path_resolution.specs.declared.question.Question.{Question}
-use Rattle.reports.specs.Answers.{answer_report, answer_line}
-use Rattle.reports.specs.Holders.{entry_at}
-use Rattle.reports.specs.Json.{file_data}
-use Rattle.reports.specs.Shown.{held}
-
--- a value as a line
-unfoldable pub value_line : Data → List ℕ
-value_line d = compact_text d ++ codes "\n"
+use Rattle.wording.specs.Answers.{answer_report, answer_line}
+use Rattle.wording.specs.Holders.{entry_at}
+use Rattle.report_json.specs.Json.{value_line, file_data}
+use Rattle.wording.specs.Shown.{held}
 
 -- which file the report after it is on, and in JSON how much it has
 abbrev pub heading : Form → List ℕ → Survey → List ℕ

@@ -3,13 +3,8 @@ ghost use Rattle.std.specs.Prelude.{OnOk};
 ghost use Rattle.std.specs.Io.KnownBytes.{Appends};
 ghost use Rattle.reports.specs.Written.{answer_text, answer_line_text};
 
-use crate::answer_json::{answer_value, refused_path_value};
-use crate::answers::{AnswerLine, AnswerReport, AnswerTold, EntriesWords};
-use crate::holders::entry_holder;
-use crate::json::write_value;
 use crate::style::Form;
 use firmware::survey::Survey;
-use firmware::trouble::FaultTold;
 use hir_def::Namespace;
 use hir_def::fault::{Fault, PathFault};
 use item_scope::index::Index;
@@ -17,8 +12,13 @@ use path_resolution::answer::ResolvePathResult;
 use path_resolution::path_resolution::resolve_path_fp_with_macro;
 use path_resolution::question::Question;
 use path_text::mod_path::ModPath;
+use report_json::answer_json::{answer_value, refused_path_value};
+use report_json::json::write_value;
 use std::alloc::Global;
 use std::io;
+use troubles::trouble::FaultTold;
+use wording::answers::{AnswerLine, AnswerReport, AnswerTold, EntriesWords};
+use wording::holders::entry_holder;
 
 /// For people: who asks, the entry of each namespace, and what else is answered.
 pub fn write_told<W: io::Write>(

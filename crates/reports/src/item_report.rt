@@ -1,21 +1,21 @@
 // Writes who may see each item.
-use crate::items::{ItemTold, RefusedLine, SeenLine, SeenTold};
-use crate::json::{item_value, refused_value, write_value};
-use crate::seen::Seen;
 use crate::style::{FEW, Form, Style};
 use entries::account::Account;
 use entries::visibility::Visibility;
-use firmware::reader::Declared;
+use firmware::file::Declared;
 use firmware::survey::Survey;
-use firmware::trouble::FaultTold;
 use hir_def::ModuleId;
 use hir_def::fault::{Failure, Fault, TreeFault};
 use nameres::Tree;
+use report_json::json::{item_value, refused_value, write_value};
 use std::alloc::Global;
 use std::collections::HashMap;
 use std::collections::hash_map::Entry;
 use std::hash::{BuildHasherDefault, FoldHasher};
 use std::io;
+use troubles::trouble::FaultTold;
+use wording::items::{ItemTold, RefusedLine, SeenLine, SeenTold};
+use wording::seen::Seen;
 
 // Who sees what has each visibility that came up so far.
 #[derive(Drop)]

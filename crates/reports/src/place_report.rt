@@ -2,21 +2,21 @@
 ghost use Rattle.std.specs.Prelude.{IfOk, vec_items};
 ghost use Rattle.reports.specs.Receiving.{Receiving};
 
-use crate::holders::{Holder, place_holder};
-use crate::json::write_value;
-use crate::place_json::{place_value, refused_delivery_value};
-use crate::places::{DeliveryLine, DeliveryTold, HolderTold, PlaceLine};
 use crate::style::Form;
 use firmware::deliveries::Outcome;
+use firmware::file::DeliveryStatement;
 use firmware::pile::Part;
-use firmware::reader::DeliveryStatement;
 use firmware::survey::Survey;
-use firmware::trouble::FaultTold;
 use hir_def::Namespace;
 use hir_def::fault::{Fault, IndexFault};
 use item_scope::index::Index;
+use report_json::json::write_value;
+use report_json::place_json::{place_value, refused_delivery_value};
 use std::alloc::{AllocError, Global};
 use std::io;
+use troubles::trouble::FaultTold;
+use wording::holders::{Holder, place_holder};
+use wording::places::{DeliveryLine, DeliveryTold, HolderTold, PlaceLine};
 
 const NAMESPACES: [Namespace; 3] = [Namespace::Types, Namespace::Values, Namespace::Macros];
 

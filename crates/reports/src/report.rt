@@ -5,10 +5,7 @@ ghost use Rattle.path_text.specs.Written.{written_of};
 ghost use Rattle.reports.specs.Written.{heading, path_text_or};
 
 use crate::answer_report::write_answer;
-use crate::counts::DeliveryCounts;
 use crate::item_report::write_items;
-use crate::items::{AccountLine, AccountTold};
-use crate::json::{account_value, file_value, path_value, write_value};
 use crate::place_report::{write_places, write_refused_deliveries};
 use crate::style::{Form, Style};
 use firmware::deliveries::deliver_all;
@@ -21,8 +18,11 @@ use path_text::name_list::NameList;
 use path_text::write::write_path;
 use paths::show::PathLine;
 use paths::told::PathTold;
+use report_json::json::{account_value, file_value, path_value, write_value};
 use std::alloc::{AllocError, Global};
 use std::io;
+use wording::counts::DeliveryCounts;
+use wording::items::{AccountLine, AccountTold};
 
 /// The text that a path is written as; where the list lacks a name of it, a sentence that says so.
 pub fn text_of(alloc: Global, list: &NameList, path: &ModPath) -> Result<Vec<u8>, AllocError>

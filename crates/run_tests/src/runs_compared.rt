@@ -6,6 +6,7 @@ use crate::tree::{
 use indexes::ledger_index::{FREE_LEDGER_ROW, LedgerIndex};
 use indexes::table_index::{FREE_PLACE_ROW, TableIndex};
 use item_scope::index::Recipient;
+use path_resolution::path_resolution::resolve_path;
 use path_text::mod_path::{ModPath, PathKind};
 use runs::calls::Call;
 use runs::compare::compare_runs;
@@ -43,6 +44,8 @@ fn in_two_orders<I: Recipient, J: Recipient>(
             .before
             .is_ok_and(|it| is_function(it.resolved_def, 8))
     );
+    let pair = resolve_path(&*first, question, path);
+    assert!(rt; pair.is_ok_and(|(entries, index)| is_function(entries, 8) && index.is_none()));
     // The glob changed the place where it came first.
     assert!(rt; matches!(&glob_first[1], Call::Deliver(_, Some(Ok(true)))));
     assert!(rt; matches!(&name_first[1], Call::Deliver(_, Some(Ok(false)))));

@@ -4,7 +4,7 @@ use crate::lines::Line;
 use hir_def::builtin_type::BuiltinType;
 use hir_def::edition::Edition;
 use hir_def::{BlockId, CrateId, ModuleId, Name};
-use index_tables::loaded_tables::{IndexTables, NAMES};
+use index_tables::loaded_tables::{IndexTables, MOST_NAMES};
 use nameres::tree_rows;
 use nameres::tree_rows::{BlockRow, CrateRow, ModuleRow};
 use source_text::number::number;
@@ -190,7 +190,7 @@ impl Tables {
             return bytes.clone();
         }
         let mut lines = Vec::new(alloc);
-        for name in 0..self.names.min(NAMES) {
+        for name in 0..self.names.min(MOST_NAMES) {
             push_numbered(alloc, &mut lines, name)?;
         }
         Ok(lines)

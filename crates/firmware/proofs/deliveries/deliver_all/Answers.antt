@@ -1,5 +1,5 @@
 use Rattle.std.proofs.Common.{rules, vec_items, get_or, refl, None, []}
-use Rattle.firmware.specs.declared.reader.DeliveryStatement.{DeliveryStatement}
+use Rattle.firmware.specs.declared.file.DeliveryStatement.{DeliveryStatement}
 use Rattle.firmware.proofs.Ran.{run_more, run_all}
 use Rattle.firmware.proofs.deliveries.deliver_all.Goals as goal
 

@@ -24,5 +24,5 @@ pub returns-clause-good : goal.returns-clause-good
 returns-clause-good g c =
     let a = c.args in
     let e : c.loop-i.i ≡ length a.rows.now = omega arith in
-    good_rows g.K.PartialEq.eq (g.K.NumbersExist.exist a.counts.now) most_rows a.rows.now c.loop-i.table.entries a.from
+    good_rows g.K.PartialEq.eq (g.K.NumbersExist.exist a.counts.now) a.rows.now c.loop-i.table.entries a.from
     (all_taken g.K.PartialEq.eq (g.K.NumbersExist.exist a.counts.now) most_rows a.rows.now a.from c.loop-i.i c.loop-i.table.entries c.loop-i.table.free c.loop-i.invariant e)

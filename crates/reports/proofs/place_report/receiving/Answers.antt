@@ -1,7 +1,7 @@
 use Rattle.std.proofs.Common.{◌≡◌, List, rules, subst}
 use Rattle.std.proofs.lemmas.Fn.{dedup_same}
 use Rattle.std.proofs.lemmas.List.Sorted.{answers_always}
-use Rattle.firmware.specs.declared.reader.DeliveryStatement.{DeliveryStatement}
+use Rattle.firmware.specs.declared.file.DeliveryStatement.{DeliveryStatement}
 use Rattle.reports.specs.Receiving.{Receiving, same_place}
 use Rattle.reports.proofs.Receiving.{receiving}
 use Rattle.reports.proofs.place_report.receiving.Goals as goal

@@ -1,0 +1,68 @@
+-- What the statements of visibilities and imports tell.
+use Rattle.std.specs.Prelude.{◌≡◌, ℕ, ◌⊎◌, List, [], ◌∷◌, ◌++◌, length, map, codes, decimal, Option, Some, vec_items}
+use Rattle.std.specs.Borrow.{Bor}
+use Rattle.std.specs.BTreeMap.{BTreeMap, get_by}
+use Rattle.std.specs.Cmp.Lexicographic.{slice_cmp}
+use Rattle.std.specs.Option.{option_map}
+use Rattle.std.specs.Ordering.{nat_cmp}
+use Rattle.entries.specs.declared.per_ns.PerNs.{PerNs}
+use Rattle.entries.specs.declared.visibility.Visibility.{Visibility}
+use Rattle.entries.specs.declared.visibility.Visibility.TheVariants as vis
+use Rattle.entries.specs.declared.visibility.VisibilityExplicitness.TheVariants.{Explicit, Implicit}
+use Rattle.file_reader.specs.declared.reader.Known.{Known}
+use Rattle.file_reader.specs.declared.reader.Reader.{Reader}
+use Rattle.firmware.specs.declared.definition.Definition.{Definition}
+use Rattle.firmware.specs.declared.definitions.Definitions.{Definitions}
+use Rattle.firmware.specs.declared.file.DeliveryStatement.{DeliveryStatement}
+use Rattle.hir_def.specs.declared.ModuleId.{ModuleId}
+use Rattle.hir_def.specs.declared.import.ImportOrExternCrate.{ImportOrExternCrate}
+use Rattle.statements.specs.Kinds.{import_of, with_visibility}
+use Rattle.statements.specs.declared.clauses.RawVisibility.{RawVisibility}
+use Rattle.statements.specs.declared.clauses.RawVisibility.TheVariants as raw
+use Rattle.statements.specs.declared.clauses.Site.{Site}
+use Rattle.statements.specs.declared.kinds.Bringing.{Bringing}
+use Rattle.statements.specs.declared.kinds.Bringing.TheVariants as bringing
+
+-- the module that is declared above with that full name
+abbrev pub known_of : BTreeMap (Bor (List ℕ)) Known → List ℕ → Option Known
+known_of above w = get_by (λ k. slice_cmp nat_cmp w k.now) above
+
+-- a module by `#` and its number, or by a full name that is declared above
+abbrev pub Names : BTreeMap (Bor (List ℕ)) Known → List ℕ → ModuleId → Type 0
+Names above w m = (w ≡ codes "#" ++ decimal m.0) ⊎ (option_map (λ k. k.id) (known_of above w) ≡ Some m)
+
+abbrev IsInside : (ModuleId → Type 0) → Visibility → Type 0
+IsInside P (vis.Module m Explicit) = P m
+IsInside P (vis.Module m Implicit) = ⊥
+IsInside P vis.Public = ⊥
+IsInside P (vis.PubCrate c) = ⊥
+
+-- what is told in a module: `pub` is seen by all, `pub(crate)` in the module's crate, `private` in the module, and else in the one that is named
+abbrev pub Tells : BTreeMap (Bor (List ℕ)) Known → Known → RawVisibility → Visibility → Type 0
+Tells above at raw.Public v = v ≡ vis.Public
+Tells above at raw.Crate v = v ≡ vis.PubCrate at.krate
+Tells above at raw.Private v = v ≡ vis.Module at.id Implicit
+Tells above at (raw.In w) v = IsInside (Names above w.text.now) v
+
+-- the statements of imports by the same word
+abbrev pub imports_of : Definitions → Bringing → List Definition
+imports_of d bringing.Named = vec_items d.imports
+imports_of d bringing.Glob = vec_items d.globs
+imports_of d bringing.ExternCrate = vec_items d.extern_crates
+
+-- a delivery by who receives it, its entries and its import
+abbrev pub told : DeliveryStatement → ModuleId × (PerNs × Option ImportOrExternCrate)
+told d = (d.delivery.receiver, (d.delivery.entries, d.delivery.import))
+
+-- the deliveries of the file as far as it is read
+abbrev pub deliveries : Reader → List (ModuleId × (PerNs × Option ImportOrExternCrate))
+deliveries r = map told (vec_items r.firmware.deliveries)
+
+-- An import makes one more delivery, to the module where it stands. Its import is the statement's turn among those of its word, and
+-- all that it brings is as visible as the statement tells.
+abbrev pub Imports : Reader → Bringing → Site → Reader → Type 0
+Imports old b s new =
+    (at : Known) × (v : Visibility) × (e : PerNs)
+    × (known_of old.by_name s.«module».text.now ≡ Some at)
+    × Tells old.by_name at s.vis v
+    × (deliveries new ≡ deliveries old ++ (at.id, (with_visibility v e, Some (import_of b (length (imports_of old.firmware.definitions b))))) ∷ [])

@@ -1,0 +1,113 @@
+// What the statements of crates, modules and blocks add to a file's tree.
+use crate::reader::{Known, Reader};
+use entries::per_ns::PerNs;
+use firmware::definition::{Definition, Standing};
+use hir_def::edition::Edition;
+use hir_def::fault::Failure;
+use hir_def::{BlockId, CrateId, ModuleDefId, ModuleId};
+use item_scope::index_data::DefMapId;
+use nameres::tree_rows::{BlockRow, CrateRow, ModuleRow};
+use source_text::words::Word;
+use statements::clauses::RawVisibility;
+use statements::names::{row_number, split, text_of};
+use troubles::complaint::Complaint;
+use troubles::trouble::Trouble;
+
+impl<'a> Reader<'a> {
+    // A module of that full name, which ends in its own name.
+    fn add_module(
+        &mut self,
+        word: Word<'a>,
+        within: Word<'a>,
+        name: Word<'a>,
+        row: ModuleRow,
+        root_of: Option<DefMapId>,
+    ) -> Result<ModuleId, Failure<Trouble>> {
+        if self.by_name.contains_key(word.text) {
+            return Err(Failure::from(Complaint::at(
+                word,
+                "a module of this name is declared above",
+                "a name of its own",
+            )));
+        }
+        let id = ModuleId(row_number(word, self.firmware.modules.len())?);
+        self.firmware.names.push(text_of(word)?)?;
+        self.firmware.modules.push(row)?;
+        self.firmware.definitions.modules.push(Definition {
+            within: text_of(within)?,
+            name: text_of(name)?,
+            line: word.line,
+            standing: match root_of {
+                Some(_) => Standing::Apart,
+                None => Standing::Place,
+            },
+        })?;
+        let known = Known {
+            id,
+            krate: row.krate,
+            block: row.block,
+            root_of,
+        };
+        self.by_name.insert(word.text, known)?;
+        Ok(id)
+    }
+
+    pub(crate) fn add_crate(
+        &mut self,
+        word: Word<'a>,
+        edition: Edition,
+    ) -> Result<(), Failure<Trouble>> {
+        self.list_name(word)?;
+        let krate = CrateId(row_number(word, self.firmware.crates.len())?);
+        let root = ModuleId(row_number(word, self.firmware.modules.len())?);
+        self.firmware.crates.push(CrateRow { root, edition })?;
+        let row = ModuleRow {
+            krate,
+            block: None,
+            parent: None,
+        };
+        let within = Word { text: b"", ..word };
+        self.add_module(word, within, word, row, Some(DefMapId::Crate(krate)))?;
+        Ok(())
+    }
+
+    /// A module is delivered to the one around it, as an item is.
+    pub(crate) fn add_inner(
+        &mut self,
+        word: Word<'a>,
+        raw: RawVisibility<'a>,
+    ) -> Result<(), Failure<Trouble>> {
+        let (outer, name) = split(word)?;
+        self.list_name(name)?;
+        let parent = self.known(outer)?;
+        let vis = self.visibility(parent, raw)?;
+        let row = ModuleRow {
+            krate: parent.krate,
+            block: parent.block,
+            parent: Some(parent.id),
+        };
+        let id = self.add_module(word, outer, name, row, None)?;
+        let entries = PerNs::types(ModuleDefId::ModuleId(id), vis, None);
+        self.declare(outer.text, name.text, entries)?;
+        self.deliver(parent.id, name, outer, entries, None)
+    }
+
+    pub(crate) fn add_block(&mut self, word: Word<'a>) -> Result<(), Failure<Trouble>> {
+        let (outer, name) = split(word)?;
+        self.list_name(name)?;
+        let outside = self.known(outer)?;
+        let block = BlockId(row_number(word, self.firmware.blocks.len())?);
+        let root = ModuleId(row_number(word, self.firmware.modules.len())?);
+        self.firmware.blocks.push(BlockRow {
+            root,
+            outside: outside.id,
+        })?;
+        let row = ModuleRow {
+            krate: outside.krate,
+            block: Some(block),
+            parent: None,
+        };
+        self.add_module(word, outer, name, row, Some(DefMapId::Block(block)))?;
+        Ok(())
+    }
+}

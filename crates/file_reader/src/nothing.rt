@@ -1,0 +1,58 @@
+// A file that declares nothing yet.
+use firmware::definitions::Definitions;
+use firmware::file::Firmware;
+use firmware::tables::{IndexRows, RowsTold};
+use path_text::name_list::NameList;
+use std::alloc::{AllocError, Global};
+
+const BUILTIN_NAMES: u32 = 19;
+
+fn no_definitions<'a>(alloc: Global) -> Definitions<'a> {
+    Definitions {
+        modules: Vec::new(alloc),
+        enums: Vec::new(alloc),
+        macros: Vec::new(alloc),
+        others: Vec::new(alloc),
+        imports: Vec::new(alloc),
+        globs: Vec::new(alloc),
+        extern_crates: Vec::new(alloc),
+        of_a_kind: Vec::new(alloc),
+    }
+}
+
+fn no_rows<'a, K: Copy, V: Copy>(alloc: Global) -> RowsTold<'a, K, V> {
+    RowsTold {
+        rows: Vec::new(alloc),
+        words: Vec::new(alloc),
+    }
+}
+
+fn no_tables<'a>(alloc: Global) -> IndexRows<'a> {
+    IndexRows {
+        extern_prelude: no_rows(alloc),
+        macro_use: no_rows(alloc),
+        preludes: no_rows(alloc),
+        legacy: no_rows(alloc),
+        variants: no_rows(alloc),
+        styles: Vec::new(alloc),
+    }
+}
+
+/// The built-in names stand in its list already.
+pub(crate) fn nothing<'a>(alloc: Global) -> Result<Firmware<'a>, AllocError> {
+    Ok(Firmware {
+        names: Vec::new(alloc),
+        modules: Vec::new(alloc),
+        blocks: Vec::new(alloc),
+        crates: Vec::new(alloc),
+        items: Vec::new(alloc),
+        definitions: no_definitions(alloc),
+        deliveries: Vec::new(alloc),
+        tables: no_tables(alloc),
+        paths: Vec::new(alloc),
+        questions: Vec::new(alloc),
+        list: NameList::built_in(alloc)?,
+        name_count: BUILTIN_NAMES,
+        models: Vec::new(alloc),
+    })
+}

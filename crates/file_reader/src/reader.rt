@@ -1,0 +1,88 @@
+// Reads a firmware file, statement by statement.
+use crate::models::below_a_model;
+use crate::nothing::nothing;
+use entries::per_ns::PerNs;
+use firmware::file::Firmware;
+use firmware::pile::Part;
+use hir_def::fault::Failure;
+use hir_def::{BlockId, CrateId, ModuleId};
+use item_scope::index_data::DefMapId;
+use source_text::words::Word;
+use statements::statement::Statement;
+use statements::words::StatementWords;
+use std::alloc::{AllocError, Global};
+use std::collections::BTreeMap;
+use troubles::trouble::Trouble;
+
+// A module that a statement declared.
+#[derive(Clone, Copy)]
+pub(crate) struct Known {
+    pub(crate) id: ModuleId,
+    pub(crate) krate: CrateId,
+    pub(crate) block: Option<BlockId>,
+    // The map whose root it is.
+    pub(crate) root_of: Option<DefMapId>,
+}
+
+/// A file that is read, as far as it has come, and what its statements are found by.
+#[derive(Drop)]
+pub(crate) struct Reader<'a> {
+    pub(crate) firmware: Firmware<'a>,
+    pub(crate) by_name: BTreeMap<&'a [u8], Known>,
+    // What each part declares with a kind, by what stands before the last `::` of its full name and the name after it.
+    pub(crate) declared: BTreeMap<(Part, &'a [u8], &'a [u8]), PerNs>,
+    pub(crate) model_numbers: BTreeMap<&'a [u8], usize>,
+}
+
+impl<'a> Reader<'a> {
+    fn new(alloc: Global) -> Result<Reader<'a>, AllocError> {
+        Ok(Reader {
+            firmware: nothing(alloc)?,
+            by_name: BTreeMap::new(alloc),
+            declared: BTreeMap::new(alloc),
+            model_numbers: BTreeMap::new(alloc),
+        })
+    }
+
+    // Adds what a statement tells, which begins with that word.
+    fn add(&mut self, verb: Word<'a>, statement: Statement<'a>) -> Result<(), Failure<Trouble>> {
+        if !self.firmware.models.is_empty() && !statement.stands_below_models() {
+            return Err(Failure::from(below_a_model(verb)));
+        }
+        match statement {
+            Statement::Crate(name, edition) => self.add_crate(name, edition),
+            Statement::Module(name, raw) => self.add_inner(name, raw),
+            Statement::Block(name) => self.add_block(name),
+            Statement::Item(site) => {
+                self.add_item(site)?;
+                Ok(())
+            }
+            Statement::Defined(kind, site) => self.add_definition(kind, site),
+            Statement::Variant(name, shape) => self.add_variant(name, shape),
+            Statement::LegacyMacro(name, module, None) => self.add_legacy(name, module),
+            Statement::LegacyMacro(name, module, Some(meant)) => {
+                self.add_legacy_of(name, module, meant)
+            }
+            Statement::Use(bringing, full, site) => self.add_use(bringing, full, site),
+            Statement::ExternPrelude(name, krate, meant) => {
+                self.add_extern_prelude(name, krate, meant)
+            }
+            Statement::MacroUse(name, map, meant) => self.add_macro_use(name, map, meant),
+            Statement::Prelude(module, map) => self.add_prelude(module, map),
+            Statement::Path(text, asking) => self.add_path(text, asking),
+            Statement::Model(name, below) => self.add_model(name, below),
+        }
+    }
+}
+
+/// Reads a whole file, or says what is wrong with its first bad line.
+pub fn read_firmware<'a>(alloc: Global, text: &'a [u8]) -> Result<Firmware<'a>, Failure<Trouble>> {
+    let mut reader = Reader::new(alloc)?;
+    for (i, line) in text.split(|b| *b == b'\n').enumerate() {
+        let words = StatementWords::of(line, i.saturating_add(1));
+        if let Some((verb, statement)) = Statement::of(words)? {
+            reader.add(verb, statement)?;
+        }
+    }
+    Ok(reader.firmware)
+}

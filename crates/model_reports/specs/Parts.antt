@@ -1,9 +1,0 @@
--- What a part of a file declares.
-use Rattle.std.specs.Prelude.{List, vec_items, slice_range}
-use Rattle.hir_def.specs.declared.ModuleDefId.{ModuleDefId}
-use Rattle.firmware.specs.declared.pile.Part.{Part}
-use Rattle.firmware.specs.declared.reader.Firmware.{Firmware}
-use Rattle.firmware.specs.Models.{began, ended}
-
-abbrev pub items_in : Firmware → Part → List ModuleDefId
-items_in f part = slice_range (vec_items f.definitions.of_a_kind) (began f part).items (ended f part).items

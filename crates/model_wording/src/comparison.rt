@@ -1,0 +1,129 @@
+// Whether two orders of a model's deliveries come to the same, told by the statements of the file.
+ghost use Rattle.std.specs.Prelude.{◌≡◌, IfOk, vec_items, filter};
+ghost use Rattle.std.specs.List.{slice_get};
+ghost use Rattle.std.specs.Option.{option_and_then};
+ghost use Rattle.model_wording.specs.Comparing.{is_by_glob, is_by_name, joined, compared, comparison_of};
+
+use firmware::file::DeliveryStatement;
+use hir_def::import::ImportOrExternCrate;
+use orders::agreement::Agreement;
+use orders::order::Order;
+use std::alloc::{AllocError, Global};
+
+/// What the file's order of a model's deliveries and another order come to.
+#[derive(Clone, Copy)]
+pub enum Comparison<'a> {
+    /// All deliveries are by name, or all by glob, so that the other order is the same.
+    Alone,
+    /// Each delivery is taken in both orders or refused in both, so that every question has one answer. The statement is the first
+    /// that changed a place in one order and none in the other.
+    Agree(Order, Option<DeliveryStatement<'a>>),
+    /// The first statement whose delivery is taken in one order and refused in the other.
+    Parted(Order, DeliveryStatement<'a>),
+}
+
+// Whether a glob import makes the delivery.
+fn is_by_glob(statement: &DeliveryStatement) -> bool
+    ensures { result ≡ is_by_glob statement.now }
+{
+    matches!(
+        statement.delivery.import,
+        Some(ImportOrExternCrate::Glob(_))
+    )
+}
+
+#[tactic(auto, using(crate::proofs::Filtered::taken, crate::proofs::Filtered::passed))]
+fn by_glob<'a>(
+    alloc: Global,
+    statements: &[DeliveryStatement<'a>],
+) -> Result<Vec<DeliveryStatement<'a>>, AllocError>
+    ensures { IfOk result (λ v. vec_items v ≡ filter is_by_glob statements.now) }
+{
+    let mut globs = Vec::new(alloc);
+    for statement in statements {
+        if is_by_glob(statement) {
+            globs.push(*statement)?;
+        }
+    }
+    Ok(globs)
+}
+
+#[tactic(auto, using(crate::proofs::Filtered::taken, crate::proofs::Filtered::passed))]
+fn by_name<'a>(
+    alloc: Global,
+    statements: &[DeliveryStatement<'a>],
+) -> Result<Vec<DeliveryStatement<'a>>, AllocError>
+    ensures { IfOk result (λ v. vec_items v ≡ filter is_by_name statements.now) }
+{
+    let mut names = Vec::new(alloc);
+    for statement in statements {
+        if !is_by_glob(statement) {
+            names.push(*statement)?;
+        }
+    }
+    Ok(names)
+}
+
+// The statements of both kinds, in the order.
+fn joined<'a>(
+    globs: Vec<DeliveryStatement<'a>>,
+    names: Vec<DeliveryStatement<'a>>,
+    order: Order,
+) -> Result<Vec<DeliveryStatement<'a>>, AllocError>
+    ensures { IfOk result (λ v. vec_items v ≡ joined order (vec_items globs.entry) (vec_items names.entry)) }
+{
+    let (mut first, second) = match order {
+        Order::NamesFirst => (names, globs),
+        Order::GlobsFirst => (globs, names),
+    };
+    first.extend_from_slice(second.as_slice())?;
+    Ok(first)
+}
+
+// The statement at that position, if there is one.
+fn at<'a>(
+    statements: &[DeliveryStatement<'a>],
+    position: Option<usize>,
+) -> Option<DeliveryStatement<'a>>
+    ensures { result ≡ option_and_then (slice_get statements.now) position }
+{
+    let position = position?;
+    statements.get(position).copied()
+}
+
+impl<'a> Comparison<'a> {
+    // What the agreement says of statements that stand in the other order.
+    fn told(
+        statements: &[DeliveryStatement<'a>],
+        order: Order,
+        agreement: Agreement,
+    ) -> Comparison<'a>
+        ensures { result ≡ compared statements.now order agreement }
+    {
+        match agreement {
+            Agreement::Agree { differed } => Comparison::Agree(order, at(statements, differed)),
+            Agreement::Parted(position) => match at(statements, Some(position)) {
+                Some(parted) => Comparison::Parted(order, parted),
+                None => Comparison::Alone,
+            },
+        }
+    }
+
+    /// What the agreement of the statements' order with that other order says of them.
+    pub fn of(
+        alloc: Global,
+        statements: &[DeliveryStatement<'a>],
+        order: Order,
+        agreement: Agreement,
+    ) -> Result<Comparison<'a>, AllocError>
+        ensures { IfOk result (λ c. c ≡ comparison_of statements.now order agreement) }
+    {
+        let globs = by_glob(alloc, statements)?;
+        let names = by_name(alloc, statements)?;
+        if globs.is_empty() || names.is_empty() {
+            return Ok(Comparison::Alone);
+        }
+        let list = joined(globs, names, order)?;
+        Ok(Comparison::told(list.as_slice(), order, agreement))
+    }
+}

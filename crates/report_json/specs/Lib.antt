@@ -1,0 +1,3 @@
+pub mod Json
+pub mod PlaceJson
+pub mod AnswerJson

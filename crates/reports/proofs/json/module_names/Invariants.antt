@@ -1,7 +1,0 @@
-use Rattle.std.proofs.Common.{◌≡◌, take, map, vec_items}
-use Rattle.serde_json.specs.View.{view}
-use Rattle.reports.specs.Json.{module_data}
-use Rattle.reports.proofs.json.module_names.Given as goal
-
-abbrev pub invariant-loop-module : goal.invariant-loop-module
-invariant-loop-module l = map view (vec_items l.values) ≡ map (module_data (map (λ n. n.now) l.names)) (take l.module-index l.modules)

@@ -1,0 +1,106 @@
+// Who asks a path, and what is asked beside it.
+ghost use Rattle.std.specs.Prelude.{◌≡◌};
+ghost use Rattle.std.specs.Result.{result_ok};
+ghost use Rattle.statements.specs.Clauses.{asking_of};
+
+use crate::words::StatementWords;
+use hir_def::ModuleId;
+use path_resolution::question::{BuiltinShadowMode, MacroSubNs, Question, ResolveMode};
+use source_text::words::Word;
+use troubles::complaint::Complaint;
+
+/// The module where a path stands, and the options of the question.
+#[derive(Clone, Copy)]
+pub struct Asking<'a> {
+    pub module: Word<'a>,
+    pub mode: ResolveMode,
+    pub shadow: BuiltinShadowMode,
+    pub expected: Option<MacroSubNs>,
+}
+
+impl<'a> Asking<'a> {
+    /// The question of the module with that number.
+    pub fn question(self, original_module: ModuleId) -> Question
+        ensures { result ≡ record {
+          mode = self.entry.mode;
+          original_module = original_module;
+          shadow = self.entry.shadow;
+          expected_macro_subns = self.entry.expected;
+        } }
+    {
+        Question {
+            mode: self.mode,
+            original_module,
+            shadow: self.shadow,
+            expected_macro_subns: self.expected,
+        }
+    }
+}
+
+const FROM: &str = "`from` and the module where the path stands, or the end of the line";
+
+const OPTION: &str =
+    "`mode=import`, `mode=other`, `shadow=module`, `shadow=other`, `macro=bang` or `macro=attribute`";
+
+// With the option that the word says.
+fn with_option<'a>(asking: Asking<'a>, word: Word<'a>) -> Result<Asking<'a>, Complaint>
+    ensures { result_ok result ≡ asking_of asking.entry word.entry.text.now }
+{
+    if word.is("mode=import") {
+        Ok(Asking {
+            mode: ResolveMode::Import,
+            ..asking
+        })
+    } else if word.is("mode=other") {
+        Ok(Asking {
+            mode: ResolveMode::Other,
+            ..asking
+        })
+    } else if word.is("shadow=module") {
+        Ok(Asking {
+            shadow: BuiltinShadowMode::Module,
+            ..asking
+        })
+    } else if word.is("shadow=other") {
+        Ok(Asking {
+            shadow: BuiltinShadowMode::Other,
+            ..asking
+        })
+    } else if word.is("macro=bang") {
+        Ok(Asking {
+            expected: Some(MacroSubNs::Bang),
+            ..asking
+        })
+    } else if word.is("macro=attribute") {
+        Ok(Asking {
+            expected: Some(MacroSubNs::Attr),
+            ..asking
+        })
+    } else {
+        Err(Complaint::at(word, "this is no option of a question", OPTION))
+    }
+}
+
+/// `from MODULE` and up to three options, if there is more of the statement.
+pub(crate) fn read_asking<'a>(
+    words: &mut StatementWords<'a>,
+) -> Result<Option<Asking<'a>>, Complaint> {
+    let Some(from) = words.next_word() else {
+        return Ok(None);
+    };
+    if !from.is("from") {
+        return Err(Complaint::at(from, "this word cannot stand here", FROM));
+    }
+    let mut asking = Asking {
+        module: words.expect("the full name of a module declared above")?,
+        mode: ResolveMode::Other,
+        shadow: BuiltinShadowMode::Other,
+        expected: None,
+    };
+    for _ in 0..3 {
+        if let Some(word) = words.next_word() {
+            asking = with_option(asking, word)?;
+        }
+    }
+    Ok(Some(asking))
+}

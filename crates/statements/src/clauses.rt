@@ -1,0 +1,169 @@
+// The parts of statements: editions, visibilities, where an item stands, shapes and the styles of macros.
+ghost use Rattle.source_text.specs.Words.{first_word};
+ghost use Rattle.std.specs.Prelude.{◌≡◌, ◌++◌, IfOk, codes};
+ghost use Rattle.std.specs.Result.{result_ok};
+ghost use Rattle.statements.specs.Clauses.{styles_of, shape_of, Says};
+
+use crate::kinds::Shape;
+use crate::words::StatementWords;
+use hir_def::edition::Edition;
+use item_scope::index_data::CallStyles;
+use source_text::words::Word;
+use troubles::complaint::Complaint;
+
+/// A visibility as it is written.
+#[derive(Clone, Copy)]
+pub enum RawVisibility<'a> {
+    Public,
+    Crate,
+    In(Word<'a>),
+    Private,
+}
+
+/// `NAME in MODULE VISIBILITY`.
+#[derive(Clone, Copy)]
+pub struct Site<'a> {
+    pub name: Word<'a>,
+    pub module: Word<'a>,
+    pub vis: RawVisibility<'a>,
+}
+
+pub(crate) const EDITION: &str = "an edition: 2015, 2018, 2021 or 2024";
+
+pub(crate) const VISIBILITY: &str =
+    "a visibility: `pub`, `pub(crate)`, `pub(in MODULE)` or `private`";
+
+const SHAPE: &str = "a shape: `unit`, `tuple` or `record`";
+
+const STYLE: &str = "how the macro is called: `bang`, `attribute` or `derive`, one at least";
+
+pub(crate) const WITHIN: &str = "`in` and the module that the item stands in";
+
+pub(crate) const MODULE: &str = "the module that the item stands in";
+
+pub(crate) fn read_edition(word: Word) -> Result<Edition, Complaint> {
+    std::str::from_utf8(word.text)
+        .ok()
+        .and_then(|text| text.parse::<Edition>().ok())
+        .ok_or(Complaint::at(word, "this is no edition", EDITION))
+}
+
+// `MODULE)`, after `pub(in`.
+fn closed<'a>(word: Word<'a>) -> Result<Word<'a>, Complaint>
+    ensures { IfOk result (λ w. word.entry.text.now ≡ w.text.now ++ codes ")") }
+{
+    match word.text {
+        [text @ .., b')'] => Ok(Word {
+            text,
+            line: word.line,
+            column: word.column,
+        }),
+        _ => Err(Complaint::at(
+            word,
+            "the parenthesis is not closed",
+            "a module and then `)`, as in `pub(in raid::layout)`",
+        )),
+    }
+}
+
+pub(crate) fn visibility_of<'a>(
+    word: Word<'a>,
+    words: &mut StatementWords<'a>,
+) -> Result<RawVisibility<'a>, Complaint>
+    ensures { IfOk result (Says word.entry.text.now (first_word words.old.words.rest.now)) }
+{
+    if word.is("pub") {
+        Ok(RawVisibility::Public)
+    } else if word.is("pub(crate)") {
+        Ok(RawVisibility::Crate)
+    } else if word.is("private") {
+        Ok(RawVisibility::Private)
+    } else if word.is("pub(in") {
+        let module = words.expect("a module, as in `pub(in raid::layout)`")?;
+        Ok(RawVisibility::In(closed(module)?))
+    } else {
+        Err(Complaint::at(word, "this is no visibility", VISIBILITY))
+    }
+}
+
+// A visibility, or none where the statement ends: then it is private, as in Rust.
+pub(crate) fn read_optional<'a>(
+    words: &mut StatementWords<'a>,
+) -> Result<RawVisibility<'a>, Complaint> {
+    match words.next_word() {
+        Some(word) => visibility_of(word, words),
+        None => Ok(RawVisibility::Private),
+    }
+}
+
+// `in MODULE VISIBILITY`, after a name.
+pub(crate) fn site_of<'a>(
+    name: Word<'a>,
+    words: &mut StatementWords<'a>,
+) -> Result<Site<'a>, Complaint> {
+    words.keyword("in", WITHIN)?;
+    let module = words.expect(MODULE)?;
+    let word = words.expect(VISIBILITY)?;
+    let vis = visibility_of(word, words)?;
+    Ok(Site { name, module, vis })
+}
+
+pub(crate) fn read_site<'a>(words: &mut StatementWords<'a>) -> Result<Site<'a>, Complaint> {
+    let name = words.expect("the item's name")?;
+    site_of(name, words)
+}
+
+pub(crate) fn read_shape(words: &mut StatementWords) -> Result<Shape, Complaint>
+    ensures { result_ok result ≡ shape_of (first_word words.old.words.rest.now) }
+{
+    let word = words.expect(SHAPE)?;
+    if word.is("unit") {
+        Ok(Shape::Unit)
+    } else if word.is("tuple") {
+        Ok(Shape::Tuple)
+    } else if word.is("record") {
+        Ok(Shape::Record)
+    } else {
+        Err(Complaint::at(word, "this is no shape", SHAPE))
+    }
+}
+
+// Adds a way in which a macro is called.
+fn with_style(styles: CallStyles, word: Word) -> Result<CallStyles, Complaint>
+    ensures { result_ok result ≡ styles_of styles word.entry.text.now }
+{
+    if word.is("bang") {
+        Ok(CallStyles {
+            fn_like: true,
+            ..styles
+        })
+    } else if word.is("attribute") {
+        Ok(CallStyles {
+            attr: true,
+            ..styles
+        })
+    } else if word.is("derive") {
+        Ok(CallStyles {
+            derive: true,
+            ..styles
+        })
+    } else {
+        Err(Complaint::at(word, "a macro is not called so", STYLE))
+    }
+}
+
+// One way at least in which a macro is called, up to the end of the statement: there are three.
+pub(crate) fn read_styles(words: &mut StatementWords) -> Result<CallStyles, Complaint> {
+    let none = CallStyles {
+        fn_like: false,
+        attr: false,
+        derive: false,
+    };
+    let mut styles = with_style(none, words.expect(STYLE)?)?;
+    for _ in 0..2 {
+        if let Some(word) = words.next_word() {
+            styles = with_style(styles, word)?;
+        }
+    }
+    Ok(styles)
+}

@@ -1,0 +1,88 @@
+// The words of a statement as names: of one segment, full names, and numbers.
+ghost use Rattle.std.specs.Prelude.{◌≡◌, ◌≤◌, ◌^◌, ◌++◌, ◌↔◌, MatchResult, IfSome, IfOk, IfErr, IsErr, codes, decimal};
+ghost use Rattle.std.specs.Str.{IsUtf8};
+ghost use Rattle.path_text.specs.Grammar.{IsName};
+ghost use Rattle.statements.specs.Names.{Parts, LastName};
+
+use bstr::ByteSlice;
+use path_text::path_text::is_name;
+use source_text::number::number;
+use source_text::words::Word;
+use troubles::complaint::Complaint;
+
+const NAME: &str =
+    "an identifier (a letter or `_`, then letters, digits or `_`, and not `_` alone) other than `crate`, `self` and `super`";
+
+/// The word as a name of one segment.
+pub fn name_of<'a>(word: Word<'a>) -> Result<&'a str, Complaint>
+    ensures named { IfOk result (λ t. (t.now ≡ word.entry.text.now) × IsName word.entry.text.now) }
+    ensures refused { IfErr result (λ _. ¬ (IsName word.entry.text.now × IsUtf8 word.entry.text.now)) }
+{
+    if !is_name(word.text) {
+        return Err(Complaint::at(word, "this is no name", NAME));
+    }
+    text_of(word)
+}
+
+/// The word as text.
+pub fn text_of<'a>(word: Word<'a>) -> Result<&'a str, Complaint>
+    ensures { MatchResult result (λ t. (t.now ≡ word.entry.text.now) × IsUtf8 word.entry.text.now) (λ _. ¬ (IsUtf8 word.entry.text.now)) }
+{
+    match std::str::from_utf8(word.text) {
+        Ok(text) => Ok(text),
+        Err(_) => Err(Complaint::at(word, "these bytes are no text", "text in UTF-8")),
+    }
+}
+
+/// A full name as what stands before its last `::` and the name after it.
+pub fn split<'a>(word: Word<'a>) -> Result<(Word<'a>, Word<'a>), Complaint>
+    ensures { Parts word.entry.text.now result }
+{
+    let Some((outer, name)) = word.text.rsplit_once_str(b"::") else {
+        return Err(Complaint::at(
+            word,
+            "this name has no `::`",
+            "a full name: the module around it, `::` and a name, as in `raid::layout`",
+        ));
+    };
+    let outer_word = Word {
+        text: outer,
+        line: word.line,
+        column: word.column,
+    };
+    let name_word = Word {
+        text: name,
+        line: word.line,
+        column: word.column.saturating_add(outer.len() + 2),
+    };
+    Ok((outer_word, name_word))
+}
+
+/// `#7` is the module of row 7, whether or not there is one.
+pub fn numbered(text: &[u8]) -> Option<u32>
+    ensures { IfSome result (λ n. text.now ≡ codes "#" ++ decimal n) }
+{
+    let digits = text.strip_prefix(b"#")?;
+    number(std::str::from_utf8(digits).ok()?)
+}
+
+/// The number of a new row after `count` others.
+pub fn row_number(word: Word, count: usize) -> Result<u32, Complaint>
+    ensures number { IfOk result (λ n. n ≡ count) }
+    ensures refused { IsErr result ↔ (2 ^ 32 ≤ count) }
+{
+    match u32::try_from(count) {
+        Ok(n) => Ok(n),
+        Err(_) => Err(Complaint::at(word, "there are too many", "at most 4294967295 of a kind")),
+    }
+}
+
+/// What stands after the last `::` of a full name; all of it, where it has none.
+pub fn last_name<'a>(word: Word<'a>) -> Word<'a>
+    ensures { LastName word.entry.text.now result.text.now }
+{
+    match split(word) {
+        Ok((_, name)) => name,
+        Err(_) => word,
+    }
+}

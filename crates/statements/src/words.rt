@@ -1,0 +1,69 @@
+// The words of a statement, and what is wrong where one is missing or one too many.
+ghost use Rattle.source_text.specs.Words.{NextWord, after_word};
+ghost use Rattle.std.specs.Prelude.{◌≡◌};
+ghost use Rattle.std.specs.Result.{result_ok};
+
+use bstr::ByteSlice;
+use source_text::words::{Word, Words};
+use troubles::complaint::Complaint;
+
+/// What is left of a line before its comment, which begins with `//`.
+#[derive(Clone, Copy)]
+pub struct StatementWords<'a> {
+    words: Words<'a>,
+}
+
+impl<'a> StatementWords<'a> {
+    /// The words of a text that is the line of that number.
+    pub fn of(text: &'a [u8], line: usize) -> StatementWords<'a> {
+        let code = match text.split_once_str(b"//") {
+            Some((code, _)) => code,
+            None => text,
+        };
+        StatementWords {
+            words: Words::of(code, line),
+        }
+    }
+
+    pub(crate) fn next_word(&mut self) -> Option<Word<'a>>
+        ensures word { NextWord self.old.words.rest.now self.old.words.line self.old.words.column result }
+        ensures rest { self.new.words.rest.now ≡ after_word self.old.words.rest.now }
+    {
+        self.words.next_word()
+    }
+
+    /// The next word, where there has to be one.
+    pub(crate) fn expect(&mut self, expected: &'static str) -> Result<Word<'a>, Complaint>
+        ensures word { NextWord self.old.words.rest.now self.old.words.line self.old.words.column (result_ok result) }
+        ensures rest { self.new.words.rest.now ≡ after_word self.old.words.rest.now }
+    {
+        let (line, column) = self.words.end();
+        self.next_word().ok_or(Complaint {
+            line,
+            column,
+            problem: "the statement ends here",
+            expected,
+        })
+    }
+
+    /// Passes a word that has to stand there.
+    pub(crate) fn keyword(&mut self, text: &str, expected: &'static str) -> Result<(), Complaint> {
+        let word = self.expect(expected)?;
+        if word.is(text) {
+            Ok(())
+        } else {
+            Err(Complaint::at(word, "this word cannot stand here", expected))
+        }
+    }
+
+    pub(crate) fn expect_end(&mut self) -> Result<(), Complaint> {
+        match self.next_word() {
+            Some(word) => Err(Complaint::at(
+                word,
+                "this word is one too many",
+                "the end of the line, or a comment that begins with `//`",
+            )),
+            None => Ok(()),
+        }
+    }
+}
