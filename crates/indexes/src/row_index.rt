@@ -162,6 +162,8 @@ impl<'a, R: PlaceRows, S: BuildHasher> Index for RowIndex<'a, R, S> {
         self.rows.place(m, n)
     }
 
+    // Inlined, so that the entries are not copied on from a place of their own.
+    #[inline(always)]
     fn get(&self, m: ModuleId, n: Name) -> PerNs {
         PerNs {
             types: self.rows.holder(m, n),

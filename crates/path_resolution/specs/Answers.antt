@@ -1,5 +1,6 @@
 -- Answers: the empty ones, and how two answers are merged.
 use Rattle.std.specs.Prelude.{ℕ, false, ◌||◌, Some, None, Option, max}
+use Rattle.entries.specs.declared.per_ns.PerNs.{PerNs}
 use Rattle.entries.specs.Entries.{nothing, or_else}
 use Rattle.path_resolution.specs.declared.answer.ReachedFixedPoint.{ReachedFixedPoint}
 use Rattle.path_resolution.specs.declared.answer.ReachedFixedPoint.TheVariants.{Yes, No}
@@ -11,6 +12,10 @@ no_flags = record { differing_crate = false; enum_variant = false }
 
 abbrev pub empty : ReachedFixedPoint → Answer
 empty s = record { resolved_def = nothing; segment_index = None; reached_fixedpoint = s; prefix_info = no_flags }
+
+-- the whole path stands for those entries, with those flags
+abbrev pub resolved : PerNs → Flags → Answer
+resolved p f = record { resolved_def = p; segment_index = None; reached_fixedpoint = Yes; prefix_info = f }
 
 -- the newer status, if the older is No
 abbrev pub newer_if_no : ReachedFixedPoint → ReachedFixedPoint → ReachedFixedPoint

@@ -77,11 +77,13 @@ abbrev pub settles : PathKind → Option PerNs → List Name → Bool
 settles Plain (Some p) (n ∷ ns) = is_some p.types
 settles _ _ _ = false
 
+-- a path whose first name has those entries, asked in the module m
+abbrev pub asked_from : View → ModuleId → PathKind → ModuleId → Option PerNs → List Name → Asked
+asked_from v judge k m first ns = record { answer = named_by v judge m first ns; is_final = settles k first ns }
+
 abbrev pub single_named : View → Question → PathKind → List Name → ModuleId → Asked
 single_named v q k [] m = goes_on (empty Yes)
-single_named v q k (n ∷ ns) m =
-    let first = first_of v q k m n ns in
-    record { answer = named_by v q.original_module m first ns; is_final = settles k first ns }
+single_named v q k (n ∷ ns) m = asked_from v q.original_module k m (first_of v q k m n ns) ns
 
 -- what a `self` path answers that is asked in a module that is no block root: in a module of a block the last question adds
 -- empty, Yes

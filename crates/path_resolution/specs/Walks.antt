@@ -15,11 +15,12 @@ use Rattle.item_scope.specs.Views.{View, Types, entries_at}
 use Rattle.path_resolution.specs.declared.answer.ReachedFixedPoint.TheVariants.{Yes, No}
 use Rattle.path_resolution.specs.declared.answer.ResolvePathResult.{ResolvePathResult as Answer}
 use Rattle.path_resolution.specs.declared.remaining_segments.Reached.{Reached}
+use Rattle.path_resolution.specs.Answers.{resolved}
 use Rattle.path_resolution.specs.declared.remaining_segments.Step.{Step}
 use Rattle.path_resolution.specs.declared.remaining_segments.Step.TheVariants.{On, Done}
 
 abbrev pub whole : Reached → Answer
-whole r = record { resolved_def = r.entries; segment_index = None; reached_fixedpoint = Yes; prefix_info = r.passed }
+whole r = resolved r.entries r.passed
 
 -- empty, No; of another crate's answer the status becomes Yes
 abbrev pub unresolved : Reached → Answer

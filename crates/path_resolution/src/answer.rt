@@ -1,6 +1,6 @@
 // What a path was resolved to, and how two answers are merged.
 ghost use Rattle.std.specs.Prelude.{◌≡◌};
-ghost use Rattle.path_resolution.specs.Answers.{no_flags, empty, merged, larger, newer_if_no, joined};
+ghost use Rattle.path_resolution.specs.Answers.{no_flags, empty, resolved, merged, larger, newer_if_no, joined};
 
 use entries::per_ns::PerNs;
 
@@ -82,6 +82,18 @@ impl ResolvePathResult {
             segment_index: None,
             reached_fixedpoint,
             prefix_info: ResolvePathResultPrefixInfo::none(),
+        }
+    }
+
+    // The whole path is resolved, to these entries.
+    pub(crate) fn resolved(entries: PerNs, passed: ResolvePathResultPrefixInfo) -> ResolvePathResult
+        ensures { result ≡ resolved entries passed }
+    {
+        ResolvePathResult {
+            resolved_def: entries,
+            segment_index: None,
+            reached_fixedpoint: ReachedFixedPoint::Yes,
+            prefix_info: passed,
         }
     }
 

@@ -27,15 +27,10 @@ pub(crate) enum Step {
 
 impl Reached {
     // The whole path is resolved.
-    pub(crate) fn whole(&self) -> ResolvePathResult
+    fn whole(&self) -> ResolvePathResult
         ensures { result ≡ whole self.now }
     {
-        ResolvePathResult {
-            resolved_def: self.entries,
-            segment_index: None,
-            reached_fixedpoint: ReachedFixedPoint::Yes,
-            prefix_info: self.passed,
-        }
+        ResolvePathResult::resolved(self.entries, self.passed)
     }
 
     // Names are left, and there is no type. In another crate no item can come any more.

@@ -1,11 +1,11 @@
 // A path asked in one module, and in the preludes of a crate, without what is asked further outward.
 ghost use Rattle.std.specs.Prelude.{◌≡◌, Some};
-ghost use Rattle.path_resolution.specs.Sources.{from_extern_prelude, from_crate_root};
-ghost use Rattle.path_resolution.specs.Answers.{empty};
+ghost use Rattle.path_resolution.specs.Sources.{from_extern_prelude, from_crate_root, from_module};
+ghost use Rattle.path_resolution.specs.Answers.{no_flags, empty, resolved};
 ghost use Rattle.path_resolution.specs.Starts.{super_of};
-ghost use Rattle.path_resolution.specs.Singles.{goes_on, as_2015, shadow_of, present, first_of, preludes_first, settles, named_by, single_named, super_asked, self_asked, root_asked, single_of, preludes_of};
+ghost use Rattle.path_resolution.specs.Singles.{goes_on, as_2015, shadow_of, present, asked_from, preludes_first, settles, named_by, single_named, super_asked, self_asked, root_asked, single_of, preludes_of};
 
-use crate::answer::{ReachedFixedPoint, ResolvePathResult};
+use crate::answer::{ReachedFixedPoint, ResolvePathResult, ResolvePathResultPrefixInfo};
 use crate::question::{BuiltinShadowMode, Question, ResolveMode};
 use crate::remaining_segments::resolve_remaining_segments;
 use crate::sources::{
@@ -78,34 +78,6 @@ fn shadow_of(shadow: BuiltinShadowMode, further: &[Name]) -> BuiltinShadowMode
     }
 }
 
-// The first name's entries as edition 2015 takes it.
-fn first_of_2015<I: Index>(index: &I, m: ModuleId, name: Name) -> Option<PerNs>
-    ensures { result ≡ Some (from_crate_root (I.view index.now) m name) }
-{
-    Some(resolve_name_in_crate_root_or_extern_prelude(index, m, name))
-}
-
-// The first name's entries; none where `::` has no such crate.
-fn first_of<I: Index>(
-    index: &I,
-    question: Question,
-    kind: PathKind,
-    m: ModuleId,
-    name: Name,
-    further: &[Name],
-) -> Option<PerNs>
-    ensures { result ≡ first_of (I.view index.now) question kind m name further.now }
-{
-    if is_as_2015(index, question, kind, m) {
-        return first_of_2015(index, m, name);
-    }
-    if kind == PathKind::Abs {
-        return resolve_path_abs(index, m, name);
-    }
-    let shadow = shadow_of(question.shadow, further);
-    Some(resolve_name_in_module(index, question, shadow, m, name))
-}
-
 // The same in the crate's preludes alone.
 fn preludes_first<I: Index>(
     index: &I,
@@ -125,7 +97,14 @@ fn preludes_first<I: Index>(
     }
 }
 
-// The answer where the first name of a path asked in `m` has those entries. A path of one name needs no walk.
+// A path of one name needs no walk.
+fn resolved_at_once(first: PerNs) -> ResolvePathResult
+    ensures { result ≡ resolved first no_flags }
+{
+    ResolvePathResult::resolved(first, ResolvePathResultPrefixInfo::none())
+}
+
+// The answer where the first name of a path asked in `m` has those entries.
 #[tactic(auto, unfolding(crate::specs::Walks::walk_of))]
 fn resolve_further<I: Index>(
     index: &I,
@@ -136,11 +115,10 @@ fn resolve_further<I: Index>(
 ) -> ResolvePathResult
     ensures { result ≡ named_by (I.view index.now) judge m (Some first.now) further.now }
 {
-    let start = begin(index, m, *first);
     if further.is_empty() {
-        return start.whole();
+        return resolved_at_once(*first);
     }
-    resolve_remaining_segments(index, judge, start, 1, further)
+    resolve_remaining_segments(index, judge, begin(index, m, *first), 1, further)
 }
 
 // A plain path of several names asks no further once its first name has a type.
@@ -148,6 +126,76 @@ fn settles(kind: PathKind, first: &PerNs, further: &[Name]) -> bool
     ensures { result ≡ settles kind (Some first.now) further.now }
 {
     kind == PathKind::Plain && !further.is_empty() && first.types.is_some()
+}
+
+// A path whose first name has those entries, asked in `m`.
+fn single_from<I: Index>(
+    index: &I,
+    judge: ModuleId,
+    kind: PathKind,
+    m: ModuleId,
+    first: &PerNs,
+    further: &[Name],
+) -> Asked
+    ensures { result ≡ asked_from (I.view index.now) judge kind m (Some first.now) further.now }
+{
+    if further.is_empty() {
+        return Asked::goes_on(resolved_at_once(*first));
+    }
+    Asked {
+        answer: resolve_further(index, judge, m, first, further),
+        is_final: settles(kind, first, further),
+    }
+}
+
+// A path of edition 2015 that begins in the crate's root.
+fn single_2015<I: Index>(
+    index: &I,
+    judge: ModuleId,
+    kind: PathKind,
+    m: ModuleId,
+    name: Name,
+    further: &[Name],
+) -> Asked
+    ensures { let v = I.view index.now in
+        result ≡ asked_from v judge kind m (Some (from_crate_root v m name)) further.now }
+{
+    let first = resolve_name_in_crate_root_or_extern_prelude(index, m, name);
+    single_from(index, judge, kind, m, &first, further)
+}
+
+// A `::` path, whose first name is a crate of the extern prelude, if there is one of that name.
+fn single_abs<I: Index>(
+    index: &I,
+    judge: ModuleId,
+    m: ModuleId,
+    name: Name,
+    further: &[Name],
+) -> Asked
+    ensures { let v = I.view index.now in
+        result ≡ asked_from v judge PathKind.Abs m (present (from_extern_prelude v m name)) further.now }
+{
+    let Some(first) = resolve_path_abs(index, m, name) else {
+        return Asked::empty(ReachedFixedPoint::No);
+    };
+    single_from(index, judge, PathKind::Abs, m, &first, further)
+}
+
+// A plain path.
+fn single_plain<I: Index>(
+    index: &I,
+    question: Question,
+    kind: PathKind,
+    m: ModuleId,
+    name: Name,
+    further: &[Name],
+) -> Asked
+    ensures { let v = I.view index.now in
+        result ≡ asked_from v question.original_module kind m (Some (from_module v question (shadow_of question.shadow further.now) m name)) further.now }
+{
+    let shadow = shadow_of(question.shadow, further);
+    let first = resolve_name_in_module(index, question, shadow, m, name);
+    single_from(index, question.original_module, kind, m, &first, further)
 }
 
 // A plain or a `::` path.
@@ -163,13 +211,14 @@ fn single_named<I: Index>(
     let [name, further @ ..] = names else {
         return Asked::empty(ReachedFixedPoint::Yes);
     };
-    let Some(first) = first_of(index, question, kind, m, *name, further) else {
-        return Asked::empty(ReachedFixedPoint::No);
-    };
-    Asked {
-        answer: resolve_further(index, question.original_module, m, &first, further),
-        is_final: settles(kind, &first, further),
+    let judge = question.original_module;
+    if is_as_2015(index, question, kind, m) {
+        return single_2015(index, judge, kind, m, *name, further);
     }
+    if kind == PathKind::Abs {
+        return single_abs(index, judge, m, *name, further);
+    }
+    single_plain(index, question, kind, m, *name, further)
 }
 
 // A `self` path in a module that is no block's root. In a module of a block the crate's preludes are asked last and have

@@ -1,5 +1,6 @@
 // The sources of a path's first name, in their order.
 ghost use Rattle.std.specs.Prelude.{◌≡◌};
+ghost use Rattle.entries.specs.Entries.{or_else};
 ghost use Rattle.path_resolution.specs.Sources.{fits, macro_fitting, fitting, from_legacy, from_builtin, from_extern_prelude, from_macro_use, from_prelude, from_preludes, precedes, is_block_root, skipped_in_block_roots, type_in_module, macro_in_module, from_module, from_crate_root};
 ghost use Rattle.path_resolution.specs.Starts.{map_of};
 
@@ -104,6 +105,7 @@ pub(crate) fn resolve_name_in_extern_prelude<I: Index>(index: &I, m: ModuleId, n
 }
 
 // Of a prelude module's entries those that the judge may see.
+#[inline(always)]
 fn resolve_in_prelude<I: Index>(
     index: &I,
     expected: Option<MacroSubNs>,
@@ -158,21 +160,22 @@ fn extern_prelude<I: Index>(index: &I, m: ModuleId, name: Name) -> Option<TypesI
 }
 
 // A block's root skips the prelude too.
-fn prelude<I: Index>(index: &I, question: Question, m: ModuleId, name: Name) -> PerNs
+fn fill_from_prelude<I: Index>(
+    index: &I,
+    question: Question,
+    m: ModuleId,
+    name: Name,
+    found: &mut PerNs,
+)
     ensures { let v = I.view index.now in let t = v.fixed.tree in
-        result ≡ skipped_in_block_roots t m (fitting v question.expected_macro_subns (from_prelude v (map_of t m) question.original_module name)) }
+        found.new ≡ or_else found.old (skipped_in_block_roots t m (fitting v question.expected_macro_subns (from_prelude v (map_of t m) question.original_module name))) }
 {
     if is_block_root(index, m) {
-        return PerNs::none();
+        return;
     }
     let expected = question.expected_macro_subns;
-    resolve_in_prelude(
-        index,
-        expected,
-        map_of(index, m),
-        question.original_module,
-        name,
-    )
+    let map = map_of(index, m);
+    found.fill(&resolve_in_prelude(index, expected, map, question.original_module, name));
 }
 
 // In shadow mode Other a built-in type precedes a module.
@@ -206,19 +209,25 @@ fn fill_type<I: Index>(
     }
 }
 
-// The legacy macro, else that of a module's own places, else that of the macro-use prelude.
-fn macro_in_module<I: Index>(
+// The legacy macro goes before that of a module's own places; where there is neither, that of the macro-use prelude.
+fn fill_macro<I: Index>(
     index: &I,
     expected: Option<MacroSubNs>,
     m: ModuleId,
     name: Name,
-    from_scope: Option<MacrosItem>,
-) -> Option<MacrosItem>
-    ensures { let v = I.view index.now in result ≡ macro_in_module v expected m name from_scope }
+    from_scope: &mut Option<MacrosItem>,
+)
+    ensures { let v = I.view index.now in from_scope.new ≡ macro_in_module v expected m name from_scope.old }
 {
-    resolve_in_legacy_scope(index, expected, m, name)
-        .or(filter_macro(index, expected, from_scope))
-        .or(resolve_in_macro_use_prelude(index, expected, map_of(index, m), name))
+    let legacy = resolve_in_legacy_scope(index, expected, m, name);
+    if legacy.is_some() {
+        *from_scope = legacy;
+        return;
+    }
+    *from_scope = filter_macro(index, expected, *from_scope);
+    if from_scope.is_none() {
+        *from_scope = resolve_in_macro_use_prelude(index, expected, map_of(index, m), name);
+    }
 }
 
 /// The first name of a plain path, asked in `m`: in each namespace from the first source that has it.
@@ -235,8 +244,8 @@ pub(crate) fn resolve_name_in_module<I: Index>(
     let expected = question.expected_macro_subns;
     let mut found = index.get(m, name);
     fill_type(index, shadow, m, name, &mut found.types);
-    found.macros = macro_in_module(index, expected, m, name, found.macros);
-    found.fill(&prelude(index, question, m, name));
+    fill_macro(index, expected, m, name, &mut found.macros);
+    fill_from_prelude(index, question, m, name, &mut found);
     found
 }
 
