@@ -73,11 +73,7 @@ fn entry_in(entries: &PerNs, namespace: Namespace) -> Option<TypesItem>
 
 impl<'s> ReasonTold<'s> {
     /// The reason by the statements of the file. The path is given as text.
-    pub fn of<'a: 's>(
-        firmware: &Firmware<'a>,
-        path: &'s [u8],
-        reason: &Reason,
-    ) -> ReasonTold<'s>
+    pub fn of<'a: 's>(firmware: &Firmware<'a>, path: &'s [u8], reason: &Reason) -> ReasonTold<'s>
         ensures { result ≡ reason_by firmware.now path.entry reason.now }
     {
         let definitions = &firmware.definitions;
