@@ -129,6 +129,7 @@ fn settles(kind: PathKind, first: &PerNs, further: &[Name]) -> bool
 }
 
 // A path whose first name has those entries, asked in `m`.
+#[tactic(auto, unfolding(crate::specs::Walks::walk_of))]
 fn single_from<I: Index>(
     index: &I,
     judge: ModuleId,
