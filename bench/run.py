@@ -111,7 +111,7 @@ def measure(rust, port, world, folder):
     path, path_rust = folder / "world.txt", folder / "rust.txt"
     path.write_text(world.numbers(False))
     path_rust.write_text(world.numbers(True))
-    of_port, of_rust, port_memory, rust_memory = timed(port, rust, path, path_rust, RUNS if world.name in MADE else REAL_RUNS)
+    of_port, of_rust, port_memory, rust_memory = timed(port, rust, path, path_rust, REAL_RUNS if world.name.startswith("real ") else RUNS)
     rows = [
         Row("load, in all", of_port[0][3], of_rust[0][3]),
         Row("a delivery", of_port[1][3] / of_port[1][1], of_rust[1][3] / of_rust[1][1]),
@@ -176,6 +176,8 @@ def plot(path, sizes, series):
 KINDS = ["a delivery", "one name", "long paths", "foreign paths", "deep blocks", "to and fro, 12 names"]
 GROWING = KINDS[:5]
 MADE = ("small", "middle", "large")
+# The same worlds with fewer questions, which are asked again and again.
+AGAIN = ("middle, asked again", "large, asked again")
 
 
 def ratios(measured):
@@ -197,14 +199,24 @@ def growth(measured, sizes):
              "|---|---|---|---|"]
     middle, large = measured["middle"], measured["large"]
     for what in GROWING:
-        port, names = large[what].port / middle[what].port, large["names"].get(what, 1) / middle["names"].get(what, 1)
-        lines.append(f"| {what} | {port:.2f} | {port / names:.2f} | {large[what].rust / middle[what].rust:.2f} |")
+        lines.append(f"| {what} | " + " | ".join(grown(what, middle, large)) + " |")
         piled = f"{what}, through three variants"
         if piled in large:
-            port = large[piled].port / middle[piled].port
-            lines.append(f"| {piled} | {port:.2f} | {port / names:.2f} | |")
+            lines.append(f"| {piled} | " + " | ".join(grown(piled, middle, large)) + " |")
+    lines += ["", "and where 250 questions of each kind are asked again and again, so that what they read lies near the processor by then, by", "",
+              "| | port | port, for each name of a path | Rust |", "|---|---|---|---|"]
+    middle, large = (measured[name] for name in AGAIN)
+    lines += [f"| {what} | " + " | ".join(grown(what, middle, large)) + " |" for what in GROWING[1:]]
     per_row = [measured[name]["load, in all"].port / measured[name]["rows"] for name in MADE[1:]]
     return lines + ["", f"Load takes {per_row[0]:.1f} ns for each row lent in the middle world and {per_row[1]:.1f} ns in the large one.", ""]
+
+
+def grown(what, middle, large):
+    """By how much the port's time grows, the same for each name of a path, and the Rust's."""
+    kind = what.split(", through")[0]
+    port, names = large[what].port / middle[what].port, large["names"].get(kind, 1) / middle["names"].get(kind, 1)
+    rust = f"{large[what].rust / middle[what].rust:.2f}" if large[what].rust else ""
+    return f"{port:.2f}", f"{port / names:.2f}", rust
 
 
 def main():
@@ -218,6 +230,8 @@ def main():
         worlds.make("small", 2, 10, 3, 60, 40, 50, 1),
         worlds.make("middle", 4, 500, 120, 10_000, 2000, 1, 2),
         worlds.make("large", 8, 4096, 1000, 150_000, 4000, 1, 3),
+        worlds.make(AGAIN[0], 4, 500, 120, 10_000, 250, 8, 2),
+        worlds.make(AGAIN[1], 8, 4096, 1000, 150_000, 250, 16, 3),
     ]
     real = sorted(pathlib.Path(sys.argv[3]).glob("*.in.txt.gz"), key=lambda path: path.stat().st_size) if len(sys.argv) == 4 else []
     for path in real:

@@ -48,7 +48,7 @@ impl<'a, S: BuildHasher + Drop> PlaceRows for TableRows<'a, S> {
         self.table.room()
     }
 
-    // Inlined, so that the three places of a name are looked up with one hash.
+    // Inlined, so that the entry is read where it is wanted.
     #[inline(always)]
     fn place<T: Namespaced>(&self, at: ModuleId, name: Name) -> Place<T> {
         self.table

@@ -115,7 +115,7 @@ impl<R: Rows, S: BuildHasher, A: Allocator> Table<R, S, A> {
         self.get_ref(key).copied()
     }
 
-    // Inlined, so that searches for keys with one hash, one after the other, hash once and read the head once.
+    // Inlined, so that the value is read where it is wanted.
     /// The value under the key as it lies in its row, if the key is there.
     #[inline(always)]
     #[tactic(auto, using(crate::proofs::Finds::find_tells))]

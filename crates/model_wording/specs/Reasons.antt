@@ -4,22 +4,13 @@ use Rattle.std.specs.List.{slice_get}
 use Rattle.std.specs.Option.{option_map, option_and_then}
 use Rattle.std.specs.Borrow.{Bor}
 use Rattle.hir_def.specs.declared.Namespace.{Namespace}
-use Rattle.hir_def.specs.declared.Namespace.TheVariants as namespace
 use Rattle.entries.specs.declared.per_ns.PerNs.{PerNs}
-use Rattle.entries.specs.Entries.{value_entry, macro_entry}
-use Rattle.item_scope.specs.Views.{Types}
 use Rattle.cuts.specs.declared.reached.Reason.{Reason}
 use Rattle.firmware.specs.declared.definition.Definition.{Definition}
 use Rattle.firmware.specs.declared.file.Firmware.{Firmware}
 use Rattle.firmware.specs.Definitions.{place_of}
-use Rattle.wording.specs.Holders.{entry_at}
+use Rattle.wording.specs.Holders.{entry_in, entry_at}
 use Rattle.model_wording.specs.declared.reason_told.ReasonTold.{ReasonTold}
-
--- the entry of a namespace, told as one of the types is
-abbrev pub entry_in : PerNs → Namespace → Option Types
-entry_in e namespace.Types = e.types
-entry_in e namespace.Values = option_map value_entry e.values
-entry_in e namespace.Macros = option_map macro_entry e.macros
 
 -- the place to which its statement delivered the entry
 abbrev place_in : Firmware → PerNs → Namespace → Option Definition

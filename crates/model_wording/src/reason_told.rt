@@ -1,16 +1,15 @@
 // What is written of why an item is kept: for people, and as words for programs.
 ghost use Rattle.std.specs.Prelude.{◌≡◌, Some};
-ghost use Rattle.model_wording.specs.Reasons.{entry_in, reason_by};
+ghost use Rattle.model_wording.specs.Reasons.{reason_by};
 ghost use Rattle.model_wording.specs.ReasonTold.{variant_name, path_at, as_variant, through_told, by_told, entry_told, reason_told, place_words, by_words, reason_words};
 
 use bstr::BStr;
 use cuts::reached::Reason;
-use entries::per_ns::{PerNs, TypesItem, macro_entry, value_entry};
 use firmware::definition::Definition;
 use firmware::file::Firmware;
 use hir_def::{ModuleDefId, Namespace};
 use std::fmt;
-use wording::holders::{Holder, entry_holder};
+use wording::holders::{Holder, entry_holder, entry_in};
 use wording::places::{LineText, by_word, namespace_word};
 
 /// Why an item is kept: the path with the line of its statement, the namespace, the entry that stands for the item, and the place
@@ -59,17 +58,6 @@ struct PlaceWords<'a>(Option<Definition<'a>>);
 // What brought an entry, `- -` for none.
 #[derive(Clone, Copy)]
 struct ByWords<'a>(Option<Holder<'a>>);
-
-// The entry of a namespace, told as one of the types is.
-fn entry_in(entries: &PerNs, namespace: Namespace) -> Option<TypesItem>
-    ensures { result ≡ entry_in entries.now namespace }
-{
-    match namespace {
-        Namespace::Types => entries.types,
-        Namespace::Values => entries.values.map(value_entry),
-        Namespace::Macros => entries.macros.map(macro_entry),
-    }
-}
 
 impl<'s> ReasonTold<'s> {
     /// The reason by the statements of the file. The path is given as text.

@@ -34,8 +34,12 @@ holder_at f v m n namespace.Macros = held f (option_map macro_entry (holder (v.m
 abbrev entry_holder : Definitions → Types → Holder
 entry_holder f it = holder_of f it (not (by_glob wide_glob it.import))
 
--- the entry of a namespace, if there is one, told as what holds a place is
+-- the entry of a namespace, told as one of the types is
+abbrev pub entry_in : PerNs → Namespace → Option Types
+entry_in e namespace.Types = e.types
+entry_in e namespace.Values = option_map value_entry e.values
+entry_in e namespace.Macros = option_map macro_entry e.macros
+
+-- the same, told as what holds a place is
 abbrev pub entry_at : Definitions → PerNs → Namespace → Option Holder
-entry_at f e namespace.Types = option_map (entry_holder f) e.types
-entry_at f e namespace.Values = option_map (λ it. entry_holder f (value_entry it)) e.values
-entry_at f e namespace.Macros = option_map (λ it. entry_holder f (macro_entry it)) e.macros
+entry_at f e s = option_map (entry_holder f) (entry_in e s)

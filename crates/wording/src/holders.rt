@@ -1,6 +1,6 @@
 // What holds a place, by the statements of a file.
 ghost use Rattle.std.specs.Prelude.{◌≡◌};
-ghost use Rattle.wording.specs.Holders.{holder_of, held, holder_at, entry_at};
+ghost use Rattle.wording.specs.Holders.{holder_of, held, holder_at, entry_in, entry_at};
 
 use entries::per_ns::{PerNs, TypesItem, macro_entry, value_entry};
 use entries::visibility::Visibility;
@@ -80,7 +80,18 @@ pub fn place_holder<'a, I: Index>(
     }
 }
 
-/// The entry of the namespace, if there is one, told as what holds a place is.
+/// The entry of the namespace, if there is one, told as one of the types is.
+pub fn entry_in(entries: &PerNs, namespace: Namespace) -> Option<TypesItem>
+    ensures { result ≡ entry_in entries.now namespace }
+{
+    match namespace {
+        Namespace::Types => entries.types,
+        Namespace::Values => entries.values.map(value_entry),
+        Namespace::Macros => entries.macros.map(macro_entry),
+    }
+}
+
+/// The same entry, told as what holds a place is.
 pub fn entry_holder<'a>(
     definitions: &Definitions<'a>,
     entries: &PerNs,
@@ -88,11 +99,6 @@ pub fn entry_holder<'a>(
 ) -> Option<Holder<'a>>
     ensures { result ≡ entry_at definitions.now entries.now namespace }
 {
-    let entry = match namespace {
-        Namespace::Types => entries.types,
-        Namespace::Values => entries.values.map(value_entry),
-        Namespace::Macros => entries.macros.map(macro_entry),
-    };
-    let item = entry?;
+    let item = entry_in(entries, namespace)?;
     Some(holder_of(definitions, item, !is_by_glob(item)))
 }
