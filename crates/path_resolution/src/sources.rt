@@ -78,6 +78,8 @@ fn type_in_extern_prelude<I: Index>(index: &I, m: ModuleId, name: Name) -> Optio
     })
 }
 
+// Inlined, as `resolve_in_prelude` is, so that what is found is not written to a place of its own and read from there again.
+#[inline(always)]
 fn resolve_in_macro_use_prelude<I: Index>(
     index: &I,
     expected: Option<MacroSubNs>,
