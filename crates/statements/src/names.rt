@@ -1,5 +1,5 @@
 // The words of a statement as names: of one segment, full names, and numbers.
-ghost use Rattle.std.specs.Prelude.{◌≡◌, ◌≤◌, ◌^◌, ◌++◌, ◌↔◌, MatchResult, IfSome, IfOk, IfErr, IsErr, codes, decimal};
+ghost use Rattle.std.specs.Prelude.{◌≡◌, ◌≤◌, ◌^◌, ◌++◌, ◌↔◌, ◌⊎◌, [], MatchResult, IfSome, IfOk, IfErr, IsErr, codes, decimal};
 ghost use Rattle.std.specs.Str.{IsUtf8};
 ghost use Rattle.path_text.specs.Grammar.{IsName};
 ghost use Rattle.statements.specs.Names.{Parts, LastName};
@@ -32,6 +32,13 @@ pub fn text_of<'a>(word: Word<'a>) -> Result<&'a str, Complaint>
         Ok(text) => Ok(text),
         Err(_) => Err(Complaint::at(word, "these bytes are no text", "text in UTF-8")),
     }
+}
+
+/// The word as text, and nothing where its bytes are none.
+pub(crate) fn text_or_nothing<'a>(word: Word<'a>) -> &'a str
+    ensures { (result.now ≡ word.entry.text.now) ⊎ (result.now ≡ []) }
+{
+    std::str::from_utf8(word.text).unwrap_or("")
 }
 
 /// A full name as what stands before its last `::` and the name after it.
