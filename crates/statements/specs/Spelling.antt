@@ -40,6 +40,10 @@ after_words (suc k) text = after_words k (after_word text)
 abbrev pub word : ℕ → List ℕ → List ℕ
 word k text = first_word (after_words k text)
 
+-- the word that stands there
+abbrev pub IsWord : Word → List ℕ → Type 0
+IsWord w there = (w.text.now ≡ there) × (there ≢ [])
+
 -- no word comes
 abbrev pub Ends : List ℕ → Type 0
 Ends text = first_word text ≡ []
@@ -60,11 +64,11 @@ MaySay vis text = Says (word 0 text) (word 1 text) vis ⊎ (Ends text × (vis �
 
 -- `in MODULE VISIBILITY`
 abbrev pub IsPlace : Word → RawVisibility → List ℕ → Type 0
-IsPlace at vis text = (word 0 text ≡ codes "in") × (at.text.now ≡ word 1 text) × Says (word 2 text) (word 3 text) vis
+IsPlace at vis text = (word 0 text ≡ codes "in") × IsWord at (word 1 text) × Says (word 2 text) (word 3 text) vis
 
 -- `NAME in MODULE VISIBILITY`
 abbrev pub IsSite : Site → List ℕ → Type 0
-IsSite s text = (s.name.text.now ≡ word 0 text) × IsPlace s.«module» s.vis (after_word text)
+IsSite s text = IsWord s.name (word 0 text) × IsPlace s.«module» s.vis (after_word text)
 
 abbrev pub after_site : Site → List ℕ → List ℕ
 after_site s text = after_visibility s.vis (after_words 3 text)
@@ -123,7 +127,7 @@ abbrev pub renames : List ℕ → Bool
 renames text = bytes_eq (word 0 text) (codes "as")
 
 unfoldable pub IsImportName : Bringing → List ℕ → List ℕ → List ℕ → Type 0
-IsImportName b full name text = MatchBool (renames text) (IsTrue (may_rename b) × (name ≡ word 1 text)) (LastName full name)
+IsImportName b full name text = MatchBool (renames text) (IsTrue (may_rename b) × (name ≡ word 1 text) × (word 1 text ≢ [])) (LastName full name)
 
 unfoldable pub after_import_name : List ℕ → List ℕ
 after_import_name text = if renames text then after_words 2 text else text
@@ -131,7 +135,7 @@ after_import_name text = if renames text then after_words 2 text else text
 -- `FULL in MODULE VISIBILITY` or `FULL as NAME in MODULE VISIBILITY`
 abbrev pub IsImport : Bringing → Word → Site → List ℕ → Type 0
 IsImport b full s text =
-    (full.text.now ≡ word 0 text)
+    IsWord full (word 0 text)
     × IsImportName b full.text.now s.name.text.now (after_word text)
     × IsPlace s.«module» s.vis (after_import_name (after_word text))
 
@@ -141,7 +145,7 @@ after_import s text = after_visibility s.vis (after_words 2 (after_import_name (
 -- a keyword and a word, or no word more
 abbrev pub MayGoOn : List ℕ → Option Word → List ℕ → Type 0
 MayGoOn key None text = Ends text
-MayGoOn key (Some w) text = (word 0 text ≡ key) × (w.text.now ≡ word 1 text)
+MayGoOn key (Some w) text = (word 0 text ≡ key) × IsWord w (word 1 text)
 
 abbrev pub after_going_on : Option Word → List ℕ → List ℕ
 after_going_on None text = after_word text
@@ -150,14 +154,14 @@ after_going_on (Some w) text = after_words 2 text
 -- `NAME in MODULE` or `NAME in MODULE is MACRO`
 abbrev pub IsLegacy : Word → Word → Option Word → List ℕ → Type 0
 IsLegacy name at meant text =
-    (name.text.now ≡ word 0 text) × (word 1 text ≡ codes "in") × (at.text.now ≡ word 2 text)
+    IsWord name (word 0 text) × (word 1 text ≡ codes "in") × IsWord at (word 2 text)
     × MayGoOn (codes "is") meant (after_words 3 text)
 
 -- `NAME in CRATE is MEANT`
 abbrev pub IsMeaning : Word → Word → Word → List ℕ → Type 0
 IsMeaning name within meant text =
-    (name.text.now ≡ word 0 text) × (word 1 text ≡ codes "in") × (within.text.now ≡ word 2 text)
-    × (word 3 text ≡ codes "is") × (meant.text.now ≡ word 4 text)
+    IsWord name (word 0 text) × (word 1 text ≡ codes "in") × IsWord within (word 2 text)
+    × (word 3 text ≡ codes "is") × IsWord meant (word 4 text)
 
 -- a question from that module, of which nothing more is told
 abbrev pub plain_asking : Word → Asking
@@ -170,7 +174,7 @@ MayBeOption w = (w ≡ []) ⊎ IsTrue (is_option w)
 abbrev pub MayAsk : Option Asking → List ℕ → Type 0
 MayAsk None text = Ends text
 MayAsk (Some a) text =
-    (word 0 text ≡ codes "from") × (a.«module».text.now ≡ word 1 text)
+    (word 0 text ≡ codes "from") × IsWord a.«module» (word 1 text)
     × (a ≡ with_option (with_option (with_option (plain_asking a.«module») (word 2 text)) (word 3 text)) (word 4 text))
     × MayBeOption (word 2 text) × MayBeOption (word 3 text) × MayBeOption (word 4 text)
 
@@ -181,14 +185,14 @@ after_asking (Some a) text = after_words 5 text
 -- a statement's first word, and the words after it
 abbrev pub Spells : List ℕ → List ℕ → Statement → Type 0
 Spells verb text (statement.Crate name edition) =
-    (verb ≡ codes "crate") × (name.text.now ≡ word 0 text) × (word 1 text ≡ edition_text edition)
+    (verb ≡ codes "crate") × IsWord name (word 0 text) × (word 1 text ≡ edition_text edition)
 Spells verb text (statement.Module name vis) =
-    (verb ≡ codes "module") × (name.text.now ≡ word 0 text) × MaySay vis (after_word text)
-Spells verb text (statement.Block name) = (verb ≡ codes "block") × (name.text.now ≡ word 0 text)
+    (verb ≡ codes "module") × IsWord name (word 0 text) × MaySay vis (after_word text)
+Spells verb text (statement.Block name) = (verb ≡ codes "block") × IsWord name (word 0 text)
 Spells verb text (statement.Item site) = (verb ≡ codes "item") × IsSite site text
 Spells verb text (statement.Defined k site) = IsKind k verb (after_site site text) × IsSite site text
 Spells verb text (statement.Variant name shape) =
-    (verb ≡ codes "variant") × (name.text.now ≡ word 0 text) × (shape_of (word 1 text) ≡ Some shape)
+    (verb ≡ codes "variant") × IsWord name (word 0 text) × (shape_of (word 1 text) ≡ Some shape)
 Spells verb text (statement.LegacyMacro name at meant) =
     (verb ≡ codes "legacy-macro") × IsLegacy name at meant text
 Spells verb text (statement.Use b full site) = (verb ≡ import_word b) × IsImport b full site text
@@ -197,11 +201,11 @@ Spells verb text (statement.ExternPrelude name within meant) =
 Spells verb text (statement.MacroUse name within meant) =
     (verb ≡ codes "macro-use") × IsMeaning name within meant text
 Spells verb text (statement.Prelude at within) =
-    (verb ≡ codes "prelude") × (at.text.now ≡ word 0 text) × (word 1 text ≡ codes "in") × (within.text.now ≡ word 2 text)
+    (verb ≡ codes "prelude") × IsWord at (word 0 text) × (word 1 text ≡ codes "in") × IsWord within (word 2 text)
 Spells verb text (statement.Path path asking) =
-    (verb ≡ codes "path") × (path.text.now ≡ word 0 text) × MayAsk asking (after_word text)
+    (verb ≡ codes "path") × IsWord path (word 0 text) × MayAsk asking (after_word text)
 Spells verb text (statement.Model name below) =
-    (verb ≡ codes "model") × (name.text.now ≡ word 0 text) × MayGoOn (codes "over") below (after_word text)
+    (verb ≡ codes "model") × IsWord name (word 0 text) × MayGoOn (codes "over") below (after_word text)
 
 -- what is left after these words; one that may be missing counts
 abbrev pub after_statement : Statement → List ℕ → List ℕ
@@ -225,7 +229,7 @@ Spelt line s = Spells (word 0 line) (after_word line) s × Ends (after_statement
 
 -- the statement of a line and its first word, or none where it has no word
 abbrev pub IsRead : List ℕ → Option (Word × Statement) → Type 0
-IsRead line o = MatchOption o (Ends line) (λ p. (p.0.text.now ≡ word 0 line) × Spelt line p.1)
+IsRead line o = MatchOption o (Ends line) (λ p. IsWord p.0 (word 0 line) × Spelt line p.1)
 
 -- whether it may stand below a model
 abbrev pub stands_below_models : Statement → Bool

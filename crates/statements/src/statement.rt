@@ -1,7 +1,7 @@
 // One statement of a firmware file, as its words say it.
 ghost use Rattle.std.specs.Prelude.{◌≡◌, IfOk, MatchOption, codes};
 ghost use Rattle.source_text.specs.Words.{first_word, after_word};
-ghost use Rattle.statements.specs.Spelling.{word, after_words, Ends, IsPlace, IsImportName, after_import_name, IsImport, after_import, MayGoOn, after_going_on, IsLegacy, IsMeaning, Spells, after_statement, Spelt, IsRead, stands_below_models};
+ghost use Rattle.statements.specs.Spelling.{word, after_words, IsWord, Ends, IsPlace, IsImportName, after_import_name, IsImport, after_import, MayGoOn, after_going_on, IsLegacy, IsMeaning, Spells, after_statement, Spelt, IsRead, stands_below_models};
 
 use crate::asking::{Asking, read_asking};
 use crate::clauses::{
@@ -137,7 +137,7 @@ fn read_meaning<'a>(
 
 // `NAME`, or `NAME over MODEL`.
 fn read_model<'a>(words: &mut StatementWords<'a>) -> Result<(Word<'a>, Option<Word<'a>>), Complaint>
-    ensures model { IfOk result (λ t. (t.0.text.now ≡ first_word words.old.words.rest.now) × MayGoOn (codes "over") t.1 (after_word words.old.words.rest.now)) }
+    ensures model { IfOk result (λ t. IsWord t.0 (first_word words.old.words.rest.now) × MayGoOn (codes "over") t.1 (after_word words.old.words.rest.now)) }
     ensures rest { IfOk result (λ t. words.new.words.rest.now ≡ after_going_on t.1 (after_word words.old.words.rest.now)) }
 {
     let name = words.expect("the model's name")?;
