@@ -1,7 +1,7 @@
 // One statement of a firmware file, as its words say it.
-ghost use Rattle.std.specs.Prelude.{◌≡◌, IfOk, MatchOption, codes};
+ghost use Rattle.std.specs.Prelude.{◌≡◌, IfOk, codes};
 ghost use Rattle.source_text.specs.Words.{first_word, after_word};
-ghost use Rattle.statements.specs.Spelling.{word, after_words, IsWord, Ends, IsPlace, IsImportName, after_import_name, IsImport, after_import, MayGoOn, after_going_on, IsLegacy, IsMeaning, Spells, after_statement, Spelt, IsRead, stands_below_models};
+ghost use Rattle.statements.specs.Spelling.{word, after_words, IsWord, IsImportName, after_import_name, IsImport, after_import, MayGoOn, after_going_on, IsLegacy, IsMeaning, Spells, after_statement, IsRead, stands_below_models};
 
 use crate::asking::{Asking, read_asking};
 use crate::clauses::{
