@@ -1,6 +1,7 @@
 // What the statements of items, macros, imports and preludes add to a file's tables and deliveries.
-ghost use Rattle.std.specs.Prelude.{◌≡◌, OnOk, vec_items};
+ghost use Rattle.std.specs.Prelude.{◌≡◌, ◌++◌, ◌∷◌, [], IfOk, OnOk, vec_items};
 ghost use Rattle.file_reader.specs.Statements.{imports_of, Imports};
+ghost use Rattle.file_reader.specs.Tables.{rows, defined_as, Defines, AddsDefinition, AddsExternPrelude, AddsLegacy, AddsLegacyOf, AddsMacroUse, AddsPrelude, IsCrate, IsMap};
 
 use crate::reader::Reader;
 use entries::per_ns::PerNs;
@@ -27,7 +28,10 @@ fn tell<'a, K: Copy, V: Copy>(
     key: K,
     value: V,
     word: Word<'a>,
-) -> Result<(), AllocError> {
+) -> Result<(), AllocError>
+    ensures row { OnOk result (rows told.new ≡ rows told.old ++ record { key = key; value = value } ∷ []) }
+    ensures word { OnOk result (vec_items told.new.words ≡ vec_items told.old.words ++ word.entry ∷ []) }
+{
     told.words.push(word)?;
     told.rows.push(Row { key, value })?;
     Ok(())
@@ -37,7 +41,9 @@ fn tell<'a, K: Copy, V: Copy>(
 fn of_kind<'d, 'a>(
     definitions: &'d mut Definitions<'a>,
     kind: ItemKind,
-) -> &'d mut Vec<Definition<'a>> {
+) -> &'d mut Vec<Definition<'a>>
+    ensures { vec_items result.now ≡ defined_as definitions.old kind }
+{
     match kind {
         ItemKind::Enum => &mut definitions.enums,
         ItemKind::Macro(_) => &mut definitions.macros,
@@ -82,7 +88,9 @@ impl<'a> Reader<'a> {
         }
     }
 
-    fn crate_of(&self, word: Word<'a>) -> Result<(CrateId, ModuleId), Complaint> {
+    fn crate_of(&self, word: Word<'a>) -> Result<(CrateId, ModuleId), Complaint>
+        ensures { IfOk result (IsCrate self.now.by_name word.entry.text.now) }
+    {
         let known = self.known(word)?;
         match known.root_of {
             Some(DefMapId::Crate(krate)) => Ok((krate, known.id)),
@@ -94,7 +102,9 @@ impl<'a> Reader<'a> {
         }
     }
 
-    fn map_of(&self, word: Word<'a>) -> Result<DefMapId, Complaint> {
+    fn map_of(&self, word: Word<'a>) -> Result<DefMapId, Complaint>
+        ensures { IfOk result (IsMap self.now.by_name word.entry.text.now) }
+    {
         self.known(word)?.root_of.ok_or(Complaint::at(
             word,
             "this is no crate and no block",
@@ -109,7 +119,9 @@ impl<'a> Reader<'a> {
         standing: Standing,
         name: Word<'a>,
         within: Word<'a>,
-    ) -> Result<u32, Failure<Trouble>> {
+    ) -> Result<u32, Failure<Trouble>>
+        ensures { IfOk result (λ n. Defines self.old kind n self.new) }
+    {
         let definition = Definition {
             within: text_of(within)?,
             name: text_of(name)?,
@@ -133,7 +145,9 @@ impl<'a> Reader<'a> {
         &mut self,
         kind: ItemKind,
         site: Site<'a>,
-    ) -> Result<(), Failure<Trouble>> {
+    ) -> Result<(), Failure<Trouble>>
+        ensures { OnOk result (AddsDefinition self.old kind site.entry self.new) }
+    {
         let (at, vis) = self.add_item(site)?;
         let number = self.define(kind, Standing::Place, site.name, site.module)?;
         let entries = kind.entries(number, vis);
@@ -166,7 +180,9 @@ impl<'a> Reader<'a> {
         &mut self,
         name: Word<'a>,
         module: Word<'a>,
-    ) -> Result<(), Failure<Trouble>> {
+    ) -> Result<(), Failure<Trouble>>
+        ensures { OnOk result (AddsLegacy self.old name.entry «module».entry self.new) }
+    {
         let at = self.known(module)?.id;
         let (_, number) = self.list_name(name)?;
         let styles = CallStyles {
@@ -191,7 +207,9 @@ impl<'a> Reader<'a> {
         name: Word<'a>,
         module: Word<'a>,
         meant: Word<'a>,
-    ) -> Result<(), Failure<Trouble>> {
+    ) -> Result<(), Failure<Trouble>>
+        ensures { OnOk result (AddsLegacyOf self.old name.entry «module».entry self.new) }
+    {
         let at = self.known(module)?.id;
         let (_, number) = self.list_name(name)?;
         let def = self.macro_of(meant)?;
@@ -244,7 +262,9 @@ impl<'a> Reader<'a> {
         name: Word<'a>,
         krate: Word<'a>,
         meant: Word<'a>,
-    ) -> Result<(), Failure<Trouble>> {
+    ) -> Result<(), Failure<Trouble>>
+        ensures { OnOk result (AddsExternPrelude self.old name.entry krate.entry meant.entry self.new) }
+    {
         let (_, number) = self.list_name(name)?;
         let (of, _) = self.crate_of(krate)?;
         let (_, module) = self.crate_of(meant)?;
@@ -267,7 +287,9 @@ impl<'a> Reader<'a> {
         name: Word<'a>,
         map: Word<'a>,
         meant: Word<'a>,
-    ) -> Result<(), Failure<Trouble>> {
+    ) -> Result<(), Failure<Trouble>>
+        ensures { OnOk result (AddsMacroUse self.old name.entry map.entry self.new) }
+    {
         let (_, number) = self.list_name(name)?;
         let map = self.map_of(map)?;
         let def = self.macro_of(meant)?;
@@ -286,7 +308,9 @@ impl<'a> Reader<'a> {
         &mut self,
         module: Word<'a>,
         map: Word<'a>,
-    ) -> Result<(), Failure<Trouble>> {
+    ) -> Result<(), Failure<Trouble>>
+        ensures { OnOk result (AddsPrelude self.old «module».entry map.entry self.new) }
+    {
         let of = self.map_of(map)?;
         let prelude = self.known(module)?.id;
         Ok(tell(&mut self.firmware.tables.preludes, of, prelude, module)?)
