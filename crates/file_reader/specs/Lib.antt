@@ -1,3 +1,4 @@
 pub mod Adding
+pub mod Definitions
 pub mod Statements
 pub mod Tables

@@ -1,5 +1,7 @@
 // What the statements of items, macros, imports and preludes add to a file's tables and deliveries.
-ghost use Rattle.std.specs.Prelude.{◌≡◌, ◌++◌, ◌∷◌, [], IfOk, OnOk, vec_items};
+ghost use Rattle.std.specs.Prelude.{◌≡◌, ◌++◌, ◌∷◌, [], IfOk, OnOk, length, vec_items};
+ghost use Rattle.file_reader.specs.Definitions.{Grows, Keeps, items_of};
+ghost use Rattle.firmware.specs.declared.definition.Standing.TheVariants.{Place};
 ghost use Rattle.file_reader.specs.Statements.{imports_of, Imports};
 ghost use Rattle.file_reader.specs.Tables.{rows, defined_as, Defines, AddsDefinition, AddsExternPrelude, AddsLegacy, AddsLegacyOf, AddsMacroUse, AddsPrelude, IsCrate, IsMap};
 
@@ -38,17 +40,31 @@ fn tell<'a, K: Copy, V: Copy>(
 }
 
 // The statements of a kind.
-fn of_kind<'d, 'a>(
-    definitions: &'d mut Definitions<'a>,
-    kind: ItemKind,
-) -> &'d mut Vec<Definition<'a>>
-    ensures { vec_items result.now ≡ defined_as definitions.old kind }
+fn of_kind<'d, 'a>(definitions: &'d Definitions<'a>, kind: ItemKind) -> &'d [Definition<'a>]
+    ensures { result.now ≡ defined_as definitions.now kind }
 {
     match kind {
-        ItemKind::Enum => &mut definitions.enums,
-        ItemKind::Macro(_) => &mut definitions.macros,
-        _ => &mut definitions.others,
+        ItemKind::Enum => definitions.enums.as_slice(),
+        ItemKind::Macro(_) => definitions.macros.as_slice(),
+        _ => definitions.others.as_slice(),
     }
+}
+
+// Adds a statement to those of a kind.
+fn add_to_kind<'a>(
+    definitions: &mut Definitions<'a>,
+    kind: ItemKind,
+    definition: Definition<'a>,
+) -> Result<(), AllocError>
+    ensures grows { OnOk result (Grows definitions.old kind definition.entry definitions.new) }
+    ensures items { definitions.new.of_a_kind ≡ definitions.old.of_a_kind }
+{
+    match kind {
+        ItemKind::Enum => definitions.enums.push(definition)?,
+        ItemKind::Macro(_) => definitions.macros.push(definition)?,
+        _ => definitions.others.push(definition)?,
+    }
+    Ok(())
 }
 
 // The statements of the imports of a kind.
@@ -120,7 +136,9 @@ impl<'a> Reader<'a> {
         name: Word<'a>,
         within: Word<'a>,
     ) -> Result<u32, Failure<Trouble>>
-        ensures { IfOk result (λ n. Defines self.old kind n self.new) }
+        ensures numbered { IfOk result (λ n. Defines self.old kind n self.new) }
+        ensures kept { OnOk result (Keeps self.old.firmware.definitions kind name.entry within.entry standing self.new.firmware.definitions) }
+        ensures listed { IfOk result (λ n. vec_items self.new.firmware.definitions.of_a_kind ≡ vec_items self.old.firmware.definitions.of_a_kind ++ items_of kind n) }
     {
         let definition = Definition {
             within: text_of(within)?,
@@ -128,9 +146,9 @@ impl<'a> Reader<'a> {
             line: name.line,
             standing,
         };
-        let told = of_kind(&mut self.firmware.definitions, kind);
+        let told = of_kind(&self.firmware.definitions, kind);
         let number = row_number(name, told.len())?;
-        told.push(definition)?;
+        add_to_kind(&mut self.firmware.definitions, kind, definition)?;
         if let ItemKind::Macro(styles) = kind {
             self.firmware.tables.styles.push(styles)?;
         }
@@ -146,7 +164,9 @@ impl<'a> Reader<'a> {
         kind: ItemKind,
         site: Site<'a>,
     ) -> Result<(), Failure<Trouble>>
-        ensures { OnOk result (AddsDefinition self.old kind site.entry self.new) }
+        ensures added { OnOk result (AddsDefinition self.old kind site.entry self.new) }
+        ensures kept { OnOk result (Keeps self.old.firmware.definitions kind site.entry.name site.entry.«module» Place self.new.firmware.definitions) }
+        ensures listed { OnOk result (vec_items self.new.firmware.definitions.of_a_kind ≡ vec_items self.old.firmware.definitions.of_a_kind ++ items_of kind (length (defined_as self.old.firmware.definitions kind))) }
     {
         let (at, vis) = self.add_item(site)?;
         let number = self.define(kind, Standing::Place, site.name, site.module)?;
