@@ -2,3 +2,4 @@ pub mod Adding
 pub mod Definitions
 pub mod Statements
 pub mod Tables
+pub mod Variants

@@ -4,6 +4,7 @@ ghost use Rattle.file_reader.specs.Definitions.{Grows, Keeps, items_of};
 ghost use Rattle.firmware.specs.declared.definition.Standing.TheVariants.{Place};
 ghost use Rattle.file_reader.specs.Statements.{imports_of, Imports};
 ghost use Rattle.file_reader.specs.Tables.{rows, defined_as, Defines, AddsDefinition, AddsExternPrelude, AddsLegacy, AddsLegacyOf, AddsMacroUse, AddsPrelude, IsCrate, IsMap};
+ghost use Rattle.file_reader.specs.Variants.{AddsVariant};
 
 use crate::reader::Reader;
 use entries::per_ns::PerNs;
@@ -180,7 +181,9 @@ impl<'a> Reader<'a> {
         &mut self,
         word: Word<'a>,
         shape: Shape,
-    ) -> Result<(), Failure<Trouble>> {
+    ) -> Result<(), Failure<Trouble>>
+        ensures { OnOk result (AddsVariant self.old word.entry shape self.new) }
+    {
         let (outer, name) = split(word)?;
         let (_, number) = self.list_name(name)?;
         let (of, vis) = self.enum_of(outer)?;
