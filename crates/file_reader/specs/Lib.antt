@@ -1,1 +1,5 @@
+pub mod Adding
+pub mod Definitions
 pub mod Statements
+pub mod Tables
+pub mod Variants

@@ -1,6 +1,7 @@
 // What statements of several kinds add to a file: names, items, deliveries and paths.
 ghost use Rattle.std.specs.Prelude.{◌≡◌, ◌++◌, ◌∷◌, [], IfOk, OnOk};
 ghost use Rattle.file_reader.specs.Statements.{Names, Tells, deliveries};
+ghost use Rattle.file_reader.specs.Tables.{told_by, IsNumber, Asks, AddsPath, AddsItem};
 
 use crate::reader::{Known, Reader};
 use entries::per_ns::PerNs;
@@ -10,6 +11,7 @@ use hir_def::fault::Failure;
 use hir_def::import::ImportOrExternCrate;
 use hir_def::{ModuleId, Name};
 use item_scope::delivery::Delivery;
+use path_resolution::question::Question;
 use source_text::words::Word;
 use statements::asking::Asking;
 use statements::clauses::{RawVisibility, Site};
@@ -20,7 +22,10 @@ use troubles::trouble::Trouble;
 impl<'a> Reader<'a> {
     // The name of a statement, which the paths of the file may have, and its number.
     pub(crate) fn list_name(&mut self, word: Word<'a>) -> Result<(&'a str, Name), Failure<Trouble>>
-        ensures { deliveries self.new ≡ deliveries self.old }
+        ensures deliveries { deliveries self.new ≡ deliveries self.old }
+        ensures told { told_by self.new ≡ record (told_by self.old) { names = self.new.firmware.list } }
+        ensures numbered { IfOk result (λ p. IsNumber self.new.firmware.list word.entry.text.now p.1) }
+        ensures named { IfOk result (λ p. p.0.now ≡ word.entry.text.now) }
     {
         let name = name_of(word)?;
         self.firmware.list.add(word.text)?;
@@ -41,7 +46,8 @@ impl<'a> Reader<'a> {
         entries: PerNs,
         import: Option<ImportOrExternCrate>,
     ) -> Result<(), Failure<Trouble>>
-        ensures { OnOk result (deliveries self.new ≡ deliveries self.old ++ (receiver, (entries, import)) ∷ []) }
+        ensures deliveries { OnOk result (deliveries self.new ≡ deliveries self.old ++ (receiver, (entries, import)) ∷ []) }
+        ensures told { OnOk result (told_by self.new ≡ record (told_by self.old) { names = self.new.firmware.list; delivered = deliveries self.old ++ (receiver, (entries, import)) ∷ [] }) }
     {
         let (name, number) = self.list_name(word)?;
         self.firmware.deliveries.push(DeliveryStatement {
@@ -93,7 +99,9 @@ impl<'a> Reader<'a> {
     pub(crate) fn add_item(
         &mut self,
         site: Site<'a>,
-    ) -> Result<(Known, Visibility), Failure<Trouble>> {
+    ) -> Result<(Known, Visibility), Failure<Trouble>>
+        ensures { IfOk result (λ p. AddsItem self.old site.entry p.0 p.1 self.new) }
+    {
         let (name, _) = self.list_name(site.name)?;
         let at = self.known(site.module)?;
         let vis = self.visibility(at, site.vis)?;
@@ -105,15 +113,24 @@ impl<'a> Reader<'a> {
         Ok((at, vis))
     }
 
+    // What is asked of a path, if anyone asks it.
+    fn question(&self, asking: Option<Asking<'a>>) -> Result<Option<Question>, Complaint>
+        ensures { IfOk result (Asks self.now.by_name asking.entry) }
+    {
+        match asking {
+            Some(asking) => Ok(Some(asking.question(self.known(asking.module)?.id))),
+            None => Ok(None),
+        }
+    }
+
     pub(crate) fn add_path(
         &mut self,
         text: Word<'a>,
         asking: Option<Asking<'a>>,
-    ) -> Result<(), Failure<Trouble>> {
-        let question = match asking {
-            Some(asking) => Some(asking.question(self.known(asking.module)?.id)),
-            None => None,
-        };
+    ) -> Result<(), Failure<Trouble>>
+        ensures { OnOk result (AddsPath self.old text.entry asking.entry self.new) }
+    {
+        let question = self.question(asking)?;
         self.firmware.paths.push(text)?;
         self.firmware.questions.push(question)?;
         Ok(())

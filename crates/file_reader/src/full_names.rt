@@ -2,6 +2,7 @@
 ghost use Rattle.std.specs.Prelude.{◌≡◌};
 ghost use Rattle.std.specs.Result.{result_ok};
 ghost use Rattle.file_reader.specs.Statements.{known_of};
+ghost use Rattle.file_reader.specs.Tables.{told_by};
 
 use crate::reader::{Known, Reader};
 use entries::per_ns::PerNs;
@@ -49,7 +50,9 @@ impl<'a> Reader<'a> {
         within: &'a [u8],
         name: &'a [u8],
         entries: PerNs,
-    ) -> Result<(), Failure<Trouble>> {
+    ) -> Result<(), Failure<Trouble>>
+        ensures { told_by self.new ≡ told_by self.old }
+    {
         let part = self.part();
         let known = self.declared_in(part, within, name).or(entries);
         self.declared.insert((part, within, name), known)?;

@@ -1,6 +1,10 @@
 // What the statements of items, macros, imports and preludes add to a file's tables and deliveries.
-ghost use Rattle.std.specs.Prelude.{◌≡◌, OnOk, vec_items};
+ghost use Rattle.std.specs.Prelude.{◌≡◌, ◌++◌, ◌∷◌, [], IfOk, OnOk, length, vec_items};
+ghost use Rattle.file_reader.specs.Definitions.{Grows, Keeps, items_of};
+ghost use Rattle.firmware.specs.declared.definition.Standing.TheVariants.{Place};
 ghost use Rattle.file_reader.specs.Statements.{imports_of, Imports};
+ghost use Rattle.file_reader.specs.Tables.{rows, defined_as, Defines, AddsDefinition, AddsExternPrelude, AddsLegacy, AddsLegacyOf, AddsMacroUse, AddsPrelude, IsCrate, IsMap};
+ghost use Rattle.file_reader.specs.Variants.{AddsVariant};
 
 use crate::reader::Reader;
 use entries::per_ns::PerNs;
@@ -27,22 +31,41 @@ fn tell<'a, K: Copy, V: Copy>(
     key: K,
     value: V,
     word: Word<'a>,
-) -> Result<(), AllocError> {
+) -> Result<(), AllocError>
+    ensures row { OnOk result (rows told.new ≡ rows told.old ++ record { key = key; value = value } ∷ []) }
+    ensures word { OnOk result (vec_items told.new.words ≡ vec_items told.old.words ++ word.entry ∷ []) }
+{
     told.words.push(word)?;
     told.rows.push(Row { key, value })?;
     Ok(())
 }
 
 // The statements of a kind.
-fn of_kind<'d, 'a>(
-    definitions: &'d mut Definitions<'a>,
-    kind: ItemKind,
-) -> &'d mut Vec<Definition<'a>> {
+fn of_kind<'d, 'a>(definitions: &'d Definitions<'a>, kind: ItemKind) -> &'d [Definition<'a>]
+    ensures { result.now ≡ defined_as definitions.now kind }
+{
     match kind {
-        ItemKind::Enum => &mut definitions.enums,
-        ItemKind::Macro(_) => &mut definitions.macros,
-        _ => &mut definitions.others,
+        ItemKind::Enum => definitions.enums.as_slice(),
+        ItemKind::Macro(_) => definitions.macros.as_slice(),
+        _ => definitions.others.as_slice(),
     }
+}
+
+// Adds a statement to those of a kind.
+fn add_to_kind<'a>(
+    definitions: &mut Definitions<'a>,
+    kind: ItemKind,
+    definition: Definition<'a>,
+) -> Result<(), AllocError>
+    ensures grows { OnOk result (Grows definitions.old kind definition.entry definitions.new) }
+    ensures items { definitions.new.of_a_kind ≡ definitions.old.of_a_kind }
+{
+    match kind {
+        ItemKind::Enum => definitions.enums.push(definition)?,
+        ItemKind::Macro(_) => definitions.macros.push(definition)?,
+        _ => definitions.others.push(definition)?,
+    }
+    Ok(())
 }
 
 // The statements of the imports of a kind.
@@ -82,7 +105,9 @@ impl<'a> Reader<'a> {
         }
     }
 
-    fn crate_of(&self, word: Word<'a>) -> Result<(CrateId, ModuleId), Complaint> {
+    fn crate_of(&self, word: Word<'a>) -> Result<(CrateId, ModuleId), Complaint>
+        ensures { IfOk result (IsCrate self.now.by_name word.entry.text.now) }
+    {
         let known = self.known(word)?;
         match known.root_of {
             Some(DefMapId::Crate(krate)) => Ok((krate, known.id)),
@@ -94,7 +119,9 @@ impl<'a> Reader<'a> {
         }
     }
 
-    fn map_of(&self, word: Word<'a>) -> Result<DefMapId, Complaint> {
+    fn map_of(&self, word: Word<'a>) -> Result<DefMapId, Complaint>
+        ensures { IfOk result (IsMap self.now.by_name word.entry.text.now) }
+    {
         self.known(word)?.root_of.ok_or(Complaint::at(
             word,
             "this is no crate and no block",
@@ -109,16 +136,20 @@ impl<'a> Reader<'a> {
         standing: Standing,
         name: Word<'a>,
         within: Word<'a>,
-    ) -> Result<u32, Failure<Trouble>> {
+    ) -> Result<u32, Failure<Trouble>>
+        ensures numbered { IfOk result (λ n. Defines self.old kind n self.new) }
+        ensures kept { OnOk result (Keeps self.old.firmware.definitions kind name.entry within.entry standing self.new.firmware.definitions) }
+        ensures listed { IfOk result (λ n. vec_items self.new.firmware.definitions.of_a_kind ≡ vec_items self.old.firmware.definitions.of_a_kind ++ items_of kind n) }
+    {
         let definition = Definition {
             within: text_of(within)?,
             name: text_of(name)?,
             line: name.line,
             standing,
         };
-        let told = of_kind(&mut self.firmware.definitions, kind);
+        let told = of_kind(&self.firmware.definitions, kind);
         let number = row_number(name, told.len())?;
-        told.push(definition)?;
+        add_to_kind(&mut self.firmware.definitions, kind, definition)?;
         if let ItemKind::Macro(styles) = kind {
             self.firmware.tables.styles.push(styles)?;
         }
@@ -133,7 +164,11 @@ impl<'a> Reader<'a> {
         &mut self,
         kind: ItemKind,
         site: Site<'a>,
-    ) -> Result<(), Failure<Trouble>> {
+    ) -> Result<(), Failure<Trouble>>
+        ensures added { OnOk result (AddsDefinition self.old kind site.entry self.new) }
+        ensures kept { OnOk result (Keeps self.old.firmware.definitions kind site.entry.name site.entry.«module» Place self.new.firmware.definitions) }
+        ensures listed { OnOk result (vec_items self.new.firmware.definitions.of_a_kind ≡ vec_items self.old.firmware.definitions.of_a_kind ++ items_of kind (length (defined_as self.old.firmware.definitions kind))) }
+    {
         let (at, vis) = self.add_item(site)?;
         let number = self.define(kind, Standing::Place, site.name, site.module)?;
         let entries = kind.entries(number, vis);
@@ -146,7 +181,9 @@ impl<'a> Reader<'a> {
         &mut self,
         word: Word<'a>,
         shape: Shape,
-    ) -> Result<(), Failure<Trouble>> {
+    ) -> Result<(), Failure<Trouble>>
+        ensures { OnOk result (AddsVariant self.old word.entry shape self.new) }
+    {
         let (outer, name) = split(word)?;
         let (_, number) = self.list_name(name)?;
         let (of, vis) = self.enum_of(outer)?;
@@ -166,7 +203,9 @@ impl<'a> Reader<'a> {
         &mut self,
         name: Word<'a>,
         module: Word<'a>,
-    ) -> Result<(), Failure<Trouble>> {
+    ) -> Result<(), Failure<Trouble>>
+        ensures { OnOk result (AddsLegacy self.old name.entry «module».entry self.new) }
+    {
         let at = self.known(module)?.id;
         let (_, number) = self.list_name(name)?;
         let styles = CallStyles {
@@ -191,7 +230,9 @@ impl<'a> Reader<'a> {
         name: Word<'a>,
         module: Word<'a>,
         meant: Word<'a>,
-    ) -> Result<(), Failure<Trouble>> {
+    ) -> Result<(), Failure<Trouble>>
+        ensures { OnOk result (AddsLegacyOf self.old name.entry «module».entry self.new) }
+    {
         let at = self.known(module)?.id;
         let (_, number) = self.list_name(name)?;
         let def = self.macro_of(meant)?;
@@ -244,7 +285,9 @@ impl<'a> Reader<'a> {
         name: Word<'a>,
         krate: Word<'a>,
         meant: Word<'a>,
-    ) -> Result<(), Failure<Trouble>> {
+    ) -> Result<(), Failure<Trouble>>
+        ensures { OnOk result (AddsExternPrelude self.old name.entry krate.entry meant.entry self.new) }
+    {
         let (_, number) = self.list_name(name)?;
         let (of, _) = self.crate_of(krate)?;
         let (_, module) = self.crate_of(meant)?;
@@ -267,7 +310,9 @@ impl<'a> Reader<'a> {
         name: Word<'a>,
         map: Word<'a>,
         meant: Word<'a>,
-    ) -> Result<(), Failure<Trouble>> {
+    ) -> Result<(), Failure<Trouble>>
+        ensures { OnOk result (AddsMacroUse self.old name.entry map.entry self.new) }
+    {
         let (_, number) = self.list_name(name)?;
         let map = self.map_of(map)?;
         let def = self.macro_of(meant)?;
@@ -286,7 +331,9 @@ impl<'a> Reader<'a> {
         &mut self,
         module: Word<'a>,
         map: Word<'a>,
-    ) -> Result<(), Failure<Trouble>> {
+    ) -> Result<(), Failure<Trouble>>
+        ensures { OnOk result (AddsPrelude self.old «module».entry map.entry self.new) }
+    {
         let of = self.map_of(map)?;
         let prelude = self.known(module)?.id;
         Ok(tell(&mut self.firmware.tables.preludes, of, prelude, module)?)

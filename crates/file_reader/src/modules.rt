@@ -1,4 +1,7 @@
 // What the statements of crates, modules and blocks add to a file's tree.
+ghost use Rattle.std.specs.Prelude.{IfOk, OnOk};
+ghost use Rattle.file_reader.specs.Tables.{AddsBlock, AddsCrate, AddsInner, AddsModule};
+
 use crate::reader::{Known, Reader};
 use entries::per_ns::PerNs;
 use firmware::definition::{Definition, Standing};
@@ -22,7 +25,9 @@ impl<'a> Reader<'a> {
         name: Word<'a>,
         row: ModuleRow,
         root_of: Option<DefMapId>,
-    ) -> Result<ModuleId, Failure<Trouble>> {
+    ) -> Result<ModuleId, Failure<Trouble>>
+        ensures { IfOk result (λ id. AddsModule self.old word.entry row root_of id self.new) }
+    {
         if self.by_name.contains_key(word.text) {
             return Err(Failure::from(Complaint::at(
                 word,
@@ -56,7 +61,9 @@ impl<'a> Reader<'a> {
         &mut self,
         word: Word<'a>,
         edition: Edition,
-    ) -> Result<(), Failure<Trouble>> {
+    ) -> Result<(), Failure<Trouble>>
+        ensures { OnOk result (AddsCrate self.old word.entry edition self.new) }
+    {
         self.list_name(word)?;
         let krate = CrateId(row_number(word, self.firmware.crates.len())?);
         let root = ModuleId(row_number(word, self.firmware.modules.len())?);
@@ -76,7 +83,9 @@ impl<'a> Reader<'a> {
         &mut self,
         word: Word<'a>,
         raw: RawVisibility<'a>,
-    ) -> Result<(), Failure<Trouble>> {
+    ) -> Result<(), Failure<Trouble>>
+        ensures { OnOk result (AddsInner self.old word.entry raw.entry self.new) }
+    {
         let (outer, name) = split(word)?;
         self.list_name(name)?;
         let parent = self.known(outer)?;
@@ -92,7 +101,9 @@ impl<'a> Reader<'a> {
         self.deliver(parent.id, name, outer, entries, None)
     }
 
-    pub(crate) fn add_block(&mut self, word: Word<'a>) -> Result<(), Failure<Trouble>> {
+    pub(crate) fn add_block(&mut self, word: Word<'a>) -> Result<(), Failure<Trouble>>
+        ensures { OnOk result (AddsBlock self.old word.entry self.new) }
+    {
         let (outer, name) = split(word)?;
         self.list_name(name)?;
         let outside = self.known(outer)?;

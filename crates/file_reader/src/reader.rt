@@ -1,4 +1,7 @@
 // Reads a firmware file, statement by statement.
+ghost use Rattle.std.specs.Prelude.{OnOk};
+ghost use Rattle.file_reader.specs.Adding.{Adds};
+
 use crate::models::below_a_model;
 use crate::nothing::nothing;
 use entries::per_ns::PerNs;
@@ -45,7 +48,9 @@ impl<'a> Reader<'a> {
     }
 
     // Adds what a statement tells, which begins with that word.
-    fn add(&mut self, verb: Word<'a>, statement: Statement<'a>) -> Result<(), Failure<Trouble>> {
+    fn add(&mut self, verb: Word<'a>, statement: Statement<'a>) -> Result<(), Failure<Trouble>>
+        ensures { OnOk result (Adds statement.entry self.old self.new) }
+    {
         if !self.firmware.models.is_empty() && !statement.stands_below_models() {
             return Err(Failure::from(below_a_model(verb)));
         }

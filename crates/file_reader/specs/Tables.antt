@@ -1,0 +1,300 @@
+-- What the statements of items, paths, modules and preludes add to what a file tells.
+use Rattle.std.specs.Prelude.{◌≡◌, ℕ, true, false, List, [], ◌∷◌, ◌++◌, length, map, Option, Some, None, Ok, vec_items}
+use Rattle.std.specs.Borrow.{Bor}
+use Rattle.std.specs.BTreeMap.{BTreeMap, Updates}
+use Rattle.std.specs.Cmp.Lexicographic.{slice_cmp}
+use Rattle.std.specs.Option.{option_map}
+use Rattle.std.specs.Ordering.{nat_cmp}
+use Rattle.entries.specs.Entries.{of_types}
+use Rattle.entries.specs.declared.per_ns.PerNs.{PerNs}
+use Rattle.entries.specs.declared.visibility.Visibility.{Visibility}
+use Rattle.file_reader.specs.declared.reader.Known.{Known}
+use Rattle.file_reader.specs.declared.reader.Reader.{Reader}
+use Rattle.file_reader.specs.Statements.{known_of, Tells, deliveries}
+use Rattle.firmware.specs.declared.definition.Definition.{Definition}
+use Rattle.firmware.specs.declared.definitions.Definitions.{Definitions}
+use Rattle.firmware.specs.declared.file.Declared.{Declared}
+use Rattle.firmware.specs.declared.tables.RowsTold.{RowsTold}
+use Rattle.hir_def.specs.declared.BlockId.{BlockId}
+use Rattle.hir_def.specs.declared.CrateId.{CrateId}
+use Rattle.hir_def.specs.declared.MacroId.{MacroId}
+use Rattle.hir_def.specs.declared.ModuleDefId.TheVariants as def
+use Rattle.hir_def.specs.declared.ModuleId.{ModuleId}
+use Rattle.hir_def.specs.declared.Name.{Name}
+use Rattle.hir_def.specs.declared.edition.Edition.{Edition}
+use Rattle.hir_def.specs.declared.import.ImportOrExternCrate.{ImportOrExternCrate}
+use Rattle.index_tables.specs.declared.keys.CrateName.{CrateName}
+use Rattle.index_tables.specs.declared.keys.EnumName.{EnumName}
+use Rattle.index_tables.specs.declared.keys.MapName.{MapName}
+use Rattle.index_tables.specs.declared.keys.ModuleName.{ModuleName}
+use Rattle.item_scope.specs.declared.index_data.CallStyles.{CallStyles}
+use Rattle.item_scope.specs.declared.index_data.DefMapId.{DefMapId}
+use Rattle.item_scope.specs.declared.index_data.DefMapId.TheVariants as map_id
+use Rattle.item_scope.specs.declared.index_data.EnumVariant.{EnumVariant}
+use Rattle.item_scope.specs.declared.index_data.ExternPrelude.{ExternPrelude}
+use Rattle.item_scope.specs.declared.index_data.MacroUse.{MacroUse}
+use Rattle.keyed.specs.declared.row.Row.{Row}
+use Rattle.nameres.specs.declared.tree_rows.BlockRow.{BlockRow}
+use Rattle.nameres.specs.declared.tree_rows.CrateRow.{CrateRow}
+use Rattle.nameres.specs.declared.tree_rows.ModuleRow.{ModuleRow}
+use Rattle.path_resolution.specs.declared.question.Question.{Question}
+use Rattle.path_text.specs.Lists.{as_name, first}
+use Rattle.source_text.specs.declared.words.Word.{Word}
+use Rattle.statements.specs.declared.asking.Asking.{Asking}
+use Rattle.statements.specs.Names.{Parts}
+use Rattle.statements.specs.declared.clauses.RawVisibility.{RawVisibility}
+use Rattle.statements.specs.declared.clauses.Site.{Site}
+use Rattle.statements.specs.declared.kinds.ItemKind.{ItemKind}
+use Rattle.statements.specs.declared.kinds.ItemKind.TheVariants as kind
+use Rattle.statements.specs.Kinds.{entries_of}
+
+-- the rows of a table
+abbrev pub rows : {K V : Type 0} → RowsTold K V → List (Row K V)
+rows t = vec_items t.rows
+
+-- an item by its name, the full name of its module and its visibility
+abbrev pub item_told : Declared → List ℕ × (List ℕ × Visibility)
+item_told d = (d.name.now, (d.«module».now, d.vis))
+
+-- what a file tells as far as it is read: its names, the modules that are declared above, its definitions, the rows of its tables, its items, deliveries and paths
+pub record Told : Type 0 where
+  pub names : List (List ℕ)
+  pub above : BTreeMap (Bor (List ℕ)) Known
+  pub definitions : Definitions
+  pub modules : List ModuleRow
+  pub blocks : List BlockRow
+  pub crates : List CrateRow
+  pub items : List (List ℕ × (List ℕ × Visibility))
+  pub delivered : List (ModuleId × (PerNs × Option ImportOrExternCrate))
+  pub paths : List Word
+  pub questions : List (Option Question)
+  pub extern_prelude : List (Row CrateName ExternPrelude)
+  pub macro_use : List (Row MapName MacroUse)
+  pub preludes : List (Row DefMapId ModuleId)
+  pub legacy : List (Row ModuleName MacroId)
+  pub variants : List (Row EnumName EnumVariant)
+  pub styles : List CallStyles
+
+abbrev pub told_by : Reader → Told
+told_by r = record {
+  names = r.firmware.list;
+  above = r.by_name;
+  definitions = r.firmware.definitions;
+  modules = vec_items r.firmware.modules;
+  blocks = vec_items r.firmware.blocks;
+  crates = vec_items r.firmware.crates;
+  items = map item_told (vec_items r.firmware.items);
+  delivered = deliveries r;
+  paths = vec_items r.firmware.paths;
+  questions = vec_items r.firmware.questions;
+  extern_prelude = rows r.firmware.tables.extern_prelude;
+  macro_use = rows r.firmware.tables.macro_use;
+  preludes = rows r.firmware.tables.preludes;
+  legacy = rows r.firmware.tables.legacy;
+  variants = rows r.firmware.tables.variants;
+  styles = vec_items r.firmware.tables.styles;
+}
+
+-- what is asked of a path: by the module that is named, with the options that are told; nothing where nobody asks
+abbrev pub Asks : BTreeMap (Bor (List ℕ)) Known → Option Asking → Option Question → Type 0
+Asks above None q = q ≡ None
+Asks above (Some a) q =
+    (at : Known) × (known_of above a.«module».text.now ≡ Some at)
+    × (q ≡ Some (record { mode = a.mode; original_module = at.id; shadow = a.shadow; expected_macro_subns = a.expected }))
+
+-- a path, and beside it its question
+abbrev pub AddsPath : Reader → Word → Option Asking → Reader → Type 0
+AddsPath old path asking new =
+    (q : Option Question) × Asks old.by_name asking q
+    × (told_by new ≡ record (told_by old) { paths = vec_items old.firmware.paths ++ path ∷ []; questions = vec_items old.firmware.questions ++ q ∷ [] })
+
+-- an item of a module that is declared above, with the visibility that is told there
+abbrev pub AddsItem : Reader → Site → Known → Visibility → Reader → Type 0
+AddsItem old s at v new =
+    (known_of old.by_name s.«module».text.now ≡ Some at)
+    × Tells old.by_name at s.vis v
+    × (told_by new ≡ record (told_by old) { names = new.firmware.list; items = map item_told (vec_items old.firmware.items) ++ (s.name.text.now, (s.«module».text.now, v)) ∷ [] })
+
+-- the definitions that are counted with those of that kind
+abbrev pub defined_as : Definitions → ItemKind → List Definition
+defined_as d kind.Enum = vec_items d.enums
+defined_as d (kind.Macro styles) = vec_items d.macros
+defined_as d kind.Function = vec_items d.others
+defined_as d kind.Const = vec_items d.others
+defined_as d kind.Static = vec_items d.others
+defined_as d (kind.Struct s) = vec_items d.others
+defined_as d kind.Union = vec_items d.others
+defined_as d kind.Trait = vec_items d.others
+defined_as d kind.TypeAlias = vec_items d.others
+defined_as d (kind.Variant s) = vec_items d.others
+
+-- how a macro may be called
+abbrev pub styles_of : ItemKind → List CallStyles
+styles_of (kind.Macro styles) = styles ∷ []
+styles_of kind.Enum = []
+styles_of kind.Function = []
+styles_of kind.Const = []
+styles_of kind.Static = []
+styles_of (kind.Struct s) = []
+styles_of kind.Union = []
+styles_of kind.Trait = []
+styles_of kind.TypeAlias = []
+styles_of (kind.Variant s) = []
+
+-- a definition is numbered by its turn among those of its kind
+abbrev pub Defines : Reader → ItemKind → ℕ → Reader → Type 0
+Defines old k n new =
+    (n ≡ length (defined_as old.firmware.definitions k))
+    × (told_by new ≡ record (told_by old) { definitions = new.firmware.definitions; styles = vec_items old.firmware.tables.styles ++ styles_of k })
+
+-- An item of a kind is delivered to the module in which it stands. It is what its kind and its turn make of it, as visible as is told.
+abbrev pub AddsDefinition : Reader → ItemKind → Site → Reader → Type 0
+AddsDefinition old k s new =
+    (at : Known) × (v : Visibility)
+    × (known_of old.by_name s.«module».text.now ≡ Some at)
+    × Tells old.by_name at s.vis v
+    × (told_by new ≡ record (told_by old) {
+      names = new.firmware.list;
+      definitions = new.firmware.definitions;
+      items = map item_told (vec_items old.firmware.items) ++ (s.name.text.now, (s.«module».text.now, v)) ∷ [];
+      delivered = deliveries old ++ (at.id, (entries_of k (length (defined_as old.firmware.definitions k)) v, None)) ∷ [];
+      styles = vec_items old.firmware.tables.styles ++ styles_of k;
+    })
+
+-- what stands before the last `::` of a full name, and the name after it
+abbrev pub IsSplit : List ℕ → Word → Word → Type 0
+IsSplit full outer name = Parts full (Ok (outer, name))
+
+-- the map that the module of a full name is the root of
+abbrev pub IsMap : BTreeMap (Bor (List ℕ)) Known → List ℕ → DefMapId → Type 0
+IsMap above w m = option_map (λ k. k.root_of) (known_of above w) ≡ Some (Some m)
+
+-- the module of a full name
+abbrev pub IsModule : BTreeMap (Bor (List ℕ)) Known → List ℕ → ModuleId → Type 0
+IsModule above w m = option_map (λ k. k.id) (known_of above w) ≡ Some m
+
+-- the crate of that name, and its root
+abbrev pub IsCrate : BTreeMap (Bor (List ℕ)) Known → List ℕ → CrateId × ModuleId → Type 0
+IsCrate above w c = IsMap above w (map_id.Crate c.0) × IsModule above w c.1
+
+-- the number of a name in a list
+abbrev pub IsNumber : List (List ℕ) → List ℕ → Name → Type 0
+IsNumber names w n = as_name (first names w 0) ≡ Some n
+
+-- A module is numbered by its turn. It is declared above from then on, by its full name, and nothing else is.
+abbrev pub Declares : Reader → Word → ModuleRow → Option DefMapId → ModuleId → Reader → Type 0
+Declares old w row root id new =
+    (id.0 ≡ length (vec_items old.firmware.modules))
+    × (known_of old.by_name w.text.now ≡ None)
+    × Updates (λ a b. slice_cmp nat_cmp a.now b.now) old.by_name new.by_name w.text (Some (record { id = id; krate = row.krate; block = row.block; root_of = root }))
+
+-- a module of a row, and nothing but it
+abbrev pub AddsModule : Reader → Word → ModuleRow → Option DefMapId → ModuleId → Reader → Type 0
+AddsModule old w row root id new =
+    Declares old w row root id new
+    × (told_by new ≡ record (told_by old) { above = new.by_name; definitions = new.firmware.definitions; modules = vec_items old.firmware.modules ++ row ∷ [] })
+
+-- A crate has a root of its own.
+abbrev pub AddsCrate : Reader → Word → Edition → Reader → Type 0
+AddsCrate old w edition new =
+    (root : ModuleId) × (row : ModuleRow) × (c : CrateId)
+    × (c.0 ≡ length (vec_items old.firmware.crates))
+    × (row ≡ record { krate = c; block = None; parent = None })
+    × Declares old w row (Some (map_id.Crate c)) root new
+    × (told_by new ≡ record (told_by old) {
+      names = new.firmware.list;
+      above = new.by_name;
+      definitions = new.firmware.definitions;
+      modules = vec_items old.firmware.modules ++ row ∷ [];
+      crates = vec_items old.firmware.crates ++ record { root = root; edition = edition } ∷ [];
+    })
+
+-- A module stands in the crate and the block of the one around it, and is delivered to it, as visible as is told.
+abbrev pub AddsInner : Reader → Word → RawVisibility → Reader → Type 0
+AddsInner old w raw new =
+    (outer : Word) × (name : Word) × (parent : Known) × (vis : Visibility) × (id : ModuleId) × (row : ModuleRow)
+    × IsSplit w.text.now outer name
+    × (known_of old.by_name outer.text.now ≡ Some parent)
+    × Tells old.by_name parent raw vis
+    × (row ≡ record { krate = parent.krate; block = parent.block; parent = Some parent.id })
+    × Declares old w row None id new
+    × (told_by new ≡ record (told_by old) {
+      names = new.firmware.list;
+      above = new.by_name;
+      definitions = new.firmware.definitions;
+      modules = vec_items old.firmware.modules ++ row ∷ [];
+      delivered = deliveries old ++ (parent.id, (of_types (def.ModuleId id) vis None, None)) ∷ [];
+    })
+
+-- A block stands in the module around it, and has a root of its own, in that module's crate.
+abbrev pub AddsBlock : Reader → Word → Reader → Type 0
+AddsBlock old w new =
+    (outer : Word) × (name : Word) × (around : Known) × (root : ModuleId) × (row : ModuleRow) × (b : BlockId)
+    × IsSplit w.text.now outer name
+    × (known_of old.by_name outer.text.now ≡ Some around)
+    × (b.0 ≡ length (vec_items old.firmware.blocks))
+    × (row ≡ record { krate = around.krate; block = Some b; parent = None })
+    × Declares old w row (Some (map_id.Block b)) root new
+    × (told_by new ≡ record (told_by old) {
+      names = new.firmware.list;
+      above = new.by_name;
+      definitions = new.firmware.definitions;
+      modules = vec_items old.firmware.modules ++ row ∷ [];
+      blocks = vec_items old.firmware.blocks ++ record { root = root; outside = around.id } ∷ [];
+    })
+
+-- a name in the extern prelude of a crate, which means the root of a crate there
+abbrev pub AddsExternPrelude : Reader → Word → Word → Word → Reader → Type 0
+AddsExternPrelude old name krate meant new =
+    (n : Name) × (of : CrateId × ModuleId) × (to : CrateId × ModuleId)
+    × IsNumber new.firmware.list name.text.now n
+    × IsCrate old.by_name krate.text.now of
+    × IsCrate old.by_name meant.text.now to
+    × (told_by new ≡ record (told_by old) {
+      names = new.firmware.list;
+      extern_prelude = rows old.firmware.tables.extern_prelude ++ record { key = record { krate = of.0; name = n }; value = record { «module» = to.1; extern_crate = None } } ∷ [];
+    })
+
+-- a name in the macro-use prelude of a crate or a block
+abbrev pub AddsMacroUse : Reader → Word → Word → Reader → Type 0
+AddsMacroUse old name of new =
+    (n : Name) × (m : DefMapId) × (d : MacroId)
+    × IsNumber new.firmware.list name.text.now n
+    × IsMap old.by_name of.text.now m
+    × (told_by new ≡ record (told_by old) {
+      names = new.firmware.list;
+      macro_use = rows old.firmware.tables.macro_use ++ record { key = record { map = m; name = n }; value = record { def = d; extern_crate = None } } ∷ [];
+    })
+
+-- the prelude of a crate or a block
+abbrev pub AddsPrelude : Reader → Word → Word → Reader → Type 0
+AddsPrelude old m of new =
+    (prelude : ModuleId) × (d : DefMapId)
+    × IsModule old.by_name m.text.now prelude
+    × IsMap old.by_name of.text.now d
+    × (told_by new ≡ record (told_by old) { preludes = rows old.firmware.tables.preludes ++ record { key = d; value = prelude } ∷ [] })
+
+-- a new macro by its name alone, in that module: it is called as `m!()`
+abbrev pub AddsLegacy : Reader → Word → Word → Reader → Type 0
+AddsLegacy old name m new =
+    (at : ModuleId) × (n : Name) × (d : MacroId)
+    × IsModule old.by_name m.text.now at
+    × IsNumber new.firmware.list name.text.now n
+    × (d.0 ≡ length (vec_items old.firmware.definitions.macros))
+    × (told_by new ≡ record (told_by old) {
+      names = new.firmware.list;
+      definitions = new.firmware.definitions;
+      legacy = rows old.firmware.tables.legacy ++ record { key = record { at = at; name = n }; value = d } ∷ [];
+      styles = vec_items old.firmware.tables.styles ++ record { fn_like = true; attr = false; derive = false } ∷ [];
+    })
+
+-- a name of a macro in that module
+abbrev pub AddsLegacyOf : Reader → Word → Word → Reader → Type 0
+AddsLegacyOf old name m new =
+    (at : ModuleId) × (n : Name) × (d : MacroId)
+    × IsModule old.by_name m.text.now at
+    × IsNumber new.firmware.list name.text.now n
+    × (told_by new ≡ record (told_by old) {
+      names = new.firmware.list;
+      legacy = rows old.firmware.tables.legacy ++ record { key = record { at = at; name = n }; value = d } ∷ [];
+    })
