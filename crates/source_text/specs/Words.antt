@@ -1,5 +1,5 @@
 -- The words of a line: runs of bytes without blanks.
-use Rattle.std.specs.Prelude.{◌≡◌, ℕ, ◌+◌, Bool, not, ◌||◌, ◌==◌, List, [], drop, Option, MatchOption}
+use Rattle.std.specs.Prelude.{◌≡◌, ◌≢◌, ℕ, ◌+◌, Bool, not, ◌||◌, ◌==◌, List, [], drop, Option, MatchOption}
 use Rattle.std.specs.List.{position_or_len, before_first, list_all}
 use Rattle.source_text.specs.declared.words.Word.{Word}
 
@@ -18,10 +18,10 @@ first_word text = before_first is_blank (drop (blanks text) text)
 abbrev pub after_word : List ℕ → List ℕ
 after_word text = let from = drop (blanks text) text in drop (position_or_len is_blank from) from
 
--- the first word of a text and its place, where the text stands at that place; there is none where all are blanks
+-- the first word of a text and its place, where the text stands at that place; there is none exactly where all are blanks
 abbrev pub NextWord : List ℕ → ℕ → ℕ → Option Word → Type 0
 NextWord text line column o =
-    MatchOption o (first_word text ≡ []) (λ w. (w.text.now ≡ first_word text) × (w.line ≡ line) × (w.column ≡ column + blanks text))
+    MatchOption o (first_word text ≡ []) (λ w. (w.text.now ≡ first_word text) × (w.line ≡ line) × (w.column ≡ column + blanks text) × (first_word text ≢ []))
 
 -- whether a text has no such byte
 abbrev pub lacks : ℕ → List ℕ → Bool

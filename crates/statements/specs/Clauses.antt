@@ -19,7 +19,7 @@ abbrev pub is_style : List ℕ → Bool
 is_style w = bytes_eq w (codes "bang") || (bytes_eq w (codes "attribute") || bytes_eq w (codes "derive"))
 
 -- the ways in which a macro is called, with the one that the word says
-abbrev pub with_style : CallStyles → List ℕ → CallStyles
+unfoldable pub with_style : CallStyles → List ℕ → CallStyles
 with_style s w = record {
   fn_like = s.fn_like || bytes_eq w (codes "bang");
   attr = s.attr || bytes_eq w (codes "attribute");

@@ -1,3 +1,4 @@
 pub mod Clauses
 pub mod Kinds
 pub mod Names
+pub mod Spelling

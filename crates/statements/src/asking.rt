@@ -1,7 +1,9 @@
 // Who asks a path, and what is asked beside it.
-ghost use Rattle.std.specs.Prelude.{◌≡◌};
+ghost use Rattle.source_text.specs.Words.{first_word, after_word};
+ghost use Rattle.std.specs.Prelude.{◌≡◌, IfOk};
 ghost use Rattle.std.specs.Result.{result_ok};
-ghost use Rattle.statements.specs.Clauses.{asking_of};
+ghost use Rattle.statements.specs.Clauses.{asking_of, with_option};
+ghost use Rattle.statements.specs.Spelling.{MayBeOption, MayAsk, after_asking};
 
 use crate::words::StatementWords;
 use hir_def::ModuleId;
@@ -81,26 +83,41 @@ fn with_option<'a>(asking: Asking<'a>, word: Word<'a>) -> Result<Asking<'a>, Com
     }
 }
 
+// With the option that the next word says, if there is one.
+fn with_next_option<'a>(
+    asking: Asking<'a>,
+    words: &mut StatementWords<'a>,
+) -> Result<Asking<'a>, Complaint>
+    ensures option { IfOk result (λ a. MayBeOption (first_word words.old.words.rest.now) × (a ≡ with_option asking.entry (first_word words.old.words.rest.now))) }
+    ensures rest { words.new.words.rest.now ≡ after_word words.old.words.rest.now }
+{
+    match words.next_word() {
+        Some(word) => with_option(asking, word),
+        None => Ok(asking),
+    }
+}
+
 /// `from MODULE` and up to three options, if there is more of the statement.
 pub(crate) fn read_asking<'a>(
     words: &mut StatementWords<'a>,
-) -> Result<Option<Asking<'a>>, Complaint> {
+) -> Result<Option<Asking<'a>>, Complaint>
+    ensures asking { IfOk result (λ a. MayAsk a words.old.words.rest.now) }
+    ensures rest { IfOk result (λ a. words.new.words.rest.now ≡ after_asking a words.old.words.rest.now) }
+{
     let Some(from) = words.next_word() else {
         return Ok(None);
     };
     if !from.is("from") {
         return Err(Complaint::at(from, "this word cannot stand here", FROM));
     }
-    let mut asking = Asking {
+    let plain = Asking {
         module: words.expect("the full name of a module declared above")?,
         mode: ResolveMode::Other,
         shadow: BuiltinShadowMode::Other,
         expected: None,
     };
-    for _ in 0..3 {
-        if let Some(word) = words.next_word() {
-            asking = with_option(asking, word)?;
-        }
-    }
-    Ok(Some(asking))
+    let one = with_next_option(plain, words)?;
+    let two = with_next_option(one, words)?;
+    let three = with_next_option(two, words)?;
+    Ok(Some(three))
 }

@@ -1,10 +1,13 @@
 // The parts of statements: editions, visibilities, where an item stands, shapes and the styles of macros.
-ghost use Rattle.source_text.specs.Words.{first_word};
+ghost use Rattle.hir_def.specs.Editions.{edition_text};
+ghost use Rattle.source_text.specs.Words.{first_word, after_word};
 ghost use Rattle.std.specs.Prelude.{◌≡◌, ◌++◌, IfOk, codes};
 ghost use Rattle.std.specs.Result.{result_ok};
-ghost use Rattle.statements.specs.Clauses.{styles_of, shape_of, Says};
+ghost use Rattle.statements.specs.Clauses.{styles_of, with_style, shape_of, Says};
+ghost use Rattle.statements.specs.Spelling.{after_module, after_visibility, MaySay, IsPlace, IsSite, after_site, MayBeStyle, AreStyles, after_words};
 
 use crate::kinds::Shape;
+use crate::names::text_or_nothing;
 use crate::words::StatementWords;
 use hir_def::edition::Edition;
 use item_scope::index_data::CallStyles;
@@ -41,11 +44,13 @@ pub(crate) const WITHIN: &str = "`in` and the module that the item stands in";
 
 pub(crate) const MODULE: &str = "the module that the item stands in";
 
-pub(crate) fn read_edition(word: Word) -> Result<Edition, Complaint> {
-    std::str::from_utf8(word.text)
-        .ok()
-        .and_then(|text| text.parse::<Edition>().ok())
-        .ok_or(Complaint::at(word, "this is no edition", EDITION))
+pub(crate) fn read_edition(word: Word) -> Result<Edition, Complaint>
+    ensures { IfOk result (λ e. word.entry.text.now ≡ edition_text e) }
+{
+    match text_or_nothing(word).parse::<Edition>() {
+        Ok(edition) => Ok(edition),
+        Err(_) => Err(Complaint::at(word, "this is no edition", EDITION)),
+    }
 }
 
 // `MODULE)`, after `pub(in`.
@@ -70,7 +75,8 @@ pub(crate) fn visibility_of<'a>(
     word: Word<'a>,
     words: &mut StatementWords<'a>,
 ) -> Result<RawVisibility<'a>, Complaint>
-    ensures { IfOk result (Says word.entry.text.now (first_word words.old.words.rest.now)) }
+    ensures says { IfOk result (Says word.entry.text.now (first_word words.old.words.rest.now)) }
+    ensures rest { IfOk result (λ vis. words.new.words.rest.now ≡ after_module vis words.old.words.rest.now) }
 {
     if word.is("pub") {
         Ok(RawVisibility::Public)
@@ -89,7 +95,10 @@ pub(crate) fn visibility_of<'a>(
 // A visibility, or none where the statement ends: then it is private, as in Rust.
 pub(crate) fn read_optional<'a>(
     words: &mut StatementWords<'a>,
-) -> Result<RawVisibility<'a>, Complaint> {
+) -> Result<RawVisibility<'a>, Complaint>
+    ensures says { IfOk result (λ vis. MaySay vis words.old.words.rest.now) }
+    ensures rest { IfOk result (λ vis. words.new.words.rest.now ≡ after_visibility vis words.old.words.rest.now) }
+{
     match words.next_word() {
         Some(word) => visibility_of(word, words),
         None => Ok(RawVisibility::Private),
@@ -100,7 +109,11 @@ pub(crate) fn read_optional<'a>(
 pub(crate) fn site_of<'a>(
     name: Word<'a>,
     words: &mut StatementWords<'a>,
-) -> Result<Site<'a>, Complaint> {
+) -> Result<Site<'a>, Complaint>
+    ensures name { IfOk result (λ s. s.name.text.now ≡ name.entry.text.now) }
+    ensures place { IfOk result (λ s. IsPlace s.«module» s.vis words.old.words.rest.now) }
+    ensures rest { IfOk result (λ s. words.new.words.rest.now ≡ after_visibility s.vis (after_words 2 words.old.words.rest.now)) }
+{
     words.keyword("in", WITHIN)?;
     let module = words.expect(MODULE)?;
     let word = words.expect(VISIBILITY)?;
@@ -108,13 +121,18 @@ pub(crate) fn site_of<'a>(
     Ok(Site { name, module, vis })
 }
 
-pub(crate) fn read_site<'a>(words: &mut StatementWords<'a>) -> Result<Site<'a>, Complaint> {
+pub(crate) fn read_site<'a>(words: &mut StatementWords<'a>) -> Result<Site<'a>, Complaint>
+    ensures site { IfOk result (λ s. IsSite s words.old.words.rest.now) }
+    ensures rest { IfOk result (λ s. words.new.words.rest.now ≡ after_site s words.old.words.rest.now) }
+{
     let name = words.expect("the item's name")?;
-    site_of(name, words)
+    let site = site_of(name, words)?;
+    Ok(site)
 }
 
 pub(crate) fn read_shape(words: &mut StatementWords) -> Result<Shape, Complaint>
-    ensures { result_ok result ≡ shape_of (first_word words.old.words.rest.now) }
+    ensures shape { result_ok result ≡ shape_of (first_word words.old.words.rest.now) }
+    ensures rest { words.new.words.rest.now ≡ after_word words.old.words.rest.now }
 {
     let word = words.expect(SHAPE)?;
     if word.is("unit") {
@@ -129,6 +147,7 @@ pub(crate) fn read_shape(words: &mut StatementWords) -> Result<Shape, Complaint>
 }
 
 // Adds a way in which a macro is called.
+#[tactic(auto, unfolding(crate::specs::Clauses::with_style))]
 fn with_style(styles: CallStyles, word: Word) -> Result<CallStyles, Complaint>
     ensures { result_ok result ≡ styles_of styles word.entry.text.now }
 {
@@ -152,18 +171,31 @@ fn with_style(styles: CallStyles, word: Word) -> Result<CallStyles, Complaint>
     }
 }
 
+// Adds the way that the next word tells, if there is one.
+#[tactic(auto, unfolding(crate::specs::Clauses::with_style, crate::specs::Spelling::MayBeStyle))]
+fn with_next_style(styles: CallStyles, words: &mut StatementWords) -> Result<CallStyles, Complaint>
+    ensures style { IfOk result (λ s. MayBeStyle (first_word words.old.words.rest.now) × (s ≡ with_style styles (first_word words.old.words.rest.now))) }
+    ensures rest { words.new.words.rest.now ≡ after_word words.old.words.rest.now }
+{
+    match words.next_word() {
+        Some(word) => with_style(styles, word),
+        None => Ok(styles),
+    }
+}
+
 // One way at least in which a macro is called, up to the end of the statement: there are three.
-pub(crate) fn read_styles(words: &mut StatementWords) -> Result<CallStyles, Complaint> {
+#[tactic(auto, unfolding(crate::specs::Spelling::AreStyles))]
+pub(crate) fn read_styles(words: &mut StatementWords) -> Result<CallStyles, Complaint>
+    ensures styles { IfOk result (λ s. AreStyles s words.old.words.rest.now) }
+    ensures rest { IfOk result (λ _. words.new.words.rest.now ≡ after_words 3 words.old.words.rest.now) }
+{
     let none = CallStyles {
         fn_like: false,
         attr: false,
         derive: false,
     };
-    let mut styles = with_style(none, words.expect(STYLE)?)?;
-    for _ in 0..2 {
-        if let Some(word) = words.next_word() {
-            styles = with_style(styles, word)?;
-        }
-    }
-    Ok(styles)
+    let one = with_style(none, words.expect(STYLE)?)?;
+    let two = with_next_style(one, words)?;
+    let three = with_next_style(two, words)?;
+    Ok(three)
 }

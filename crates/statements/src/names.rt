@@ -1,5 +1,5 @@
 // The words of a statement as names: of one segment, full names, and numbers.
-ghost use Rattle.std.specs.Prelude.{◌≡◌, ◌≤◌, ◌^◌, ◌++◌, ◌↔◌, MatchResult, IfSome, IfOk, IfErr, IsErr, codes, decimal};
+ghost use Rattle.std.specs.Prelude.{◌≡◌, ℕ, ◌<◌, ◌≤◌, ◌^◌, ◌++◌, ◌↔◌, ◌⊎◌, [], MatchResult, IfSome, IfNone, IfOk, IfErr, IsErr, codes, decimal};
 ghost use Rattle.std.specs.Str.{IsUtf8};
 ghost use Rattle.path_text.specs.Grammar.{IsName};
 ghost use Rattle.statements.specs.Names.{Parts, LastName};
@@ -34,6 +34,13 @@ pub fn text_of<'a>(word: Word<'a>) -> Result<&'a str, Complaint>
     }
 }
 
+/// The word as text, and nothing where its bytes are none.
+pub(crate) fn text_or_nothing<'a>(word: Word<'a>) -> &'a str
+    ensures { (result.now ≡ word.entry.text.now) ⊎ (result.now ≡ []) }
+{
+    std::str::from_utf8(word.text).unwrap_or("")
+}
+
 /// A full name as what stands before its last `::` and the name after it.
 pub fn split<'a>(word: Word<'a>) -> Result<(Word<'a>, Word<'a>), Complaint>
     ensures { Parts word.entry.text.now result }
@@ -59,11 +66,16 @@ pub fn split<'a>(word: Word<'a>) -> Result<(Word<'a>, Word<'a>), Complaint>
 }
 
 /// `#7` is the module of row 7, whether or not there is one.
+#[tactic(auto, using(crate::proofs::Numbered::without_mark, crate::proofs::Numbered::without_number))]
 pub fn numbered(text: &[u8]) -> Option<u32>
-    ensures { IfSome result (λ n. text.now ≡ codes "#" ++ decimal n) }
+    ensures number { IfSome result (λ n. text.now ≡ codes "#" ++ decimal n) }
+    ensures none { IfNone result ((n : ℕ) → n < 2 ^ 32 → ¬ (text.now ≡ codes "#" ++ decimal n)) }
 {
     let digits = text.strip_prefix(b"#")?;
-    number(std::str::from_utf8(digits).ok()?)
+    match std::str::from_utf8(digits) {
+        Ok(digits) => number(digits),
+        Err(_) => None,
+    }
 }
 
 /// The number of a new row after `count` others.

@@ -1,11 +1,15 @@
 // One statement of a firmware file, as its words say it.
+ghost use Rattle.std.specs.Prelude.{◌≡◌, IfOk, MatchOption, codes};
+ghost use Rattle.source_text.specs.Words.{first_word, after_word};
+ghost use Rattle.statements.specs.Spelling.{word, after_words, IsWord, Ends, IsPlace, IsImportName, after_import_name, IsImport, after_import, MayGoOn, after_going_on, IsLegacy, IsMeaning, Spells, after_statement, Spelt, IsRead, stands_below_models};
+
 use crate::asking::{Asking, read_asking};
 use crate::clauses::{
     EDITION, MODULE, RawVisibility, Site, VISIBILITY, WITHIN, read_edition, read_optional,
     read_shape, read_site, read_styles, visibility_of,
 };
 use crate::kinds::{Bringing, ItemKind, Shape};
-use crate::names::last_name;
+use crate::names::{last_name, text_or_nothing};
 use crate::words::StatementWords;
 use hir_def::edition::Edition;
 use source_text::words::Word;
@@ -37,51 +41,93 @@ pub enum Statement<'a> {
     Model(Word<'a>, Option<Word<'a>>),
 }
 
-fn read_legacy<'a>(words: &mut StatementWords<'a>) -> Result<Statement<'a>, Complaint> {
+// The keyword and a word that is expected after it, or the end of the statement.
+fn read_more<'a>(
+    keyword: &str,
+    here: &'static str,
+    expected: &'static str,
+    words: &mut StatementWords<'a>,
+) -> Result<Option<Word<'a>>, Complaint>
+    ensures more { IfOk result (λ o. MayGoOn keyword.now o words.old.words.rest.now) }
+    ensures rest { IfOk result (λ o. words.new.words.rest.now ≡ after_going_on o words.old.words.rest.now) }
+{
+    let Some(word) = words.next_word() else {
+        return Ok(None);
+    };
+    if !word.is(keyword) {
+        return Err(Complaint::at(word, "this word cannot stand here", here));
+    }
+    Ok(Some(words.expect(expected)?))
+}
+
+// `NAME in MODULE` or `NAME in MODULE is MACRO`.
+fn read_legacy<'a>(
+    words: &mut StatementWords<'a>,
+) -> Result<(Word<'a>, Word<'a>, Option<Word<'a>>), Complaint>
+    ensures legacy { IfOk result (λ t. IsLegacy t.0 t.1 t.2 words.old.words.rest.now) }
+    ensures rest { IfOk result (λ t. words.new.words.rest.now ≡ after_going_on t.2 (after_words 3 words.old.words.rest.now)) }
+{
     let name = words.expect("the macro's name")?;
     words.keyword("in", WITHIN)?;
     let module = words.expect(MODULE)?;
-    let meant = match words.next_word() {
-        None => None,
-        Some(word) if word.is("is") => Some(words.expect("the full name of a macro")?),
-        Some(word) => {
-            return Err(Complaint::at(
-                word,
-                "this word cannot stand here",
-                "`is` and the full name of a macro declared above, or the end of the line",
-            ));
-        }
-    };
-    Ok(Statement::LegacyMacro(name, module, meant))
+    let meant = read_more(
+        "is",
+        "`is` and the full name of a macro declared above, or the end of the line",
+        "the full name of a macro",
+        words,
+    )?;
+    Ok((name, module, meant))
+}
+
+// `in`, or where a name may be given `as NAME in`: the name that the import has.
+#[tactic(auto, unfolding(crate::specs::Spelling::IsImportName, crate::specs::Spelling::after_import_name))]
+fn read_import_name<'a>(
+    bringing: Bringing,
+    full: Word<'a>,
+    words: &mut StatementWords<'a>,
+) -> Result<Word<'a>, Complaint>
+    ensures name { IfOk result (λ name. IsImportName bringing full.entry.text.now name.text.now words.old.words.rest.now) }
+    ensures within { IfOk result (λ _. word 0 (after_import_name words.old.words.rest.now) ≡ codes "in") }
+    ensures rest { IfOk result (λ _. words.new.words.rest.now ≡ after_word (after_import_name words.old.words.rest.now)) }
+{
+    let is_glob = matches!(bringing, Bringing::Glob);
+    let expected = if is_glob { WITHIN } else { "`in` or `as`" };
+    let word = words.expect(expected)?;
+    if word.is("as") && !is_glob {
+        let name = words.expect("the name that it has here")?;
+        words.keyword("in", WITHIN)?;
+        Ok(name)
+    } else if word.is("in") {
+        Ok(last_name(full))
+    } else {
+        Err(Complaint::at(word, "this word cannot stand here", expected))
+    }
 }
 
 // `FULL in MODULE VISIBILITY` or, where a name may be given, `FULL as NAME in MODULE VISIBILITY`.
 fn read_use<'a>(
     bringing: Bringing,
     words: &mut StatementWords<'a>,
-) -> Result<Statement<'a>, Complaint> {
-    let is_glob = matches!(bringing, Bringing::Glob);
-    let expected = if is_glob { WITHIN } else { "`in` or `as`" };
+) -> Result<(Word<'a>, Site<'a>), Complaint>
+    ensures import { IfOk result (λ t. IsImport bringing t.0 t.1 words.old.words.rest.now) }
+    ensures rest { IfOk result (λ t. words.new.words.rest.now ≡ after_import t.1 words.old.words.rest.now) }
+{
     let full = words.expect("what is imported, by its full name")?;
-    let word = words.expect(expected)?;
-    let mut name = last_name(full);
-    if word.is("as") && !is_glob {
-        name = words.expect("the name that it has here")?;
-        words.keyword("in", WITHIN)?;
-    } else if !word.is("in") {
-        return Err(Complaint::at(word, "this word cannot stand here", expected));
-    }
+    let name = read_import_name(bringing, full, words)?;
     let module = words.expect("the module that imports")?;
     let word = words.expect(VISIBILITY)?;
     let vis = visibility_of(word, words)?;
-    Ok(Statement::Use(bringing, full, Site { name, module, vis }))
+    Ok((full, Site { name, module, vis }))
 }
 
 // `NAME in CRATE is MEANT`.
 fn read_meaning<'a>(
     expected: &'static str,
     words: &mut StatementWords<'a>,
-) -> Result<(Word<'a>, Word<'a>, Word<'a>), Complaint> {
+) -> Result<(Word<'a>, Word<'a>, Word<'a>), Complaint>
+    ensures meaning { IfOk result (λ t. IsMeaning t.0 t.1 t.2 words.old.words.rest.now) }
+    ensures rest { IfOk result (λ _. words.new.words.rest.now ≡ after_words 5 words.old.words.rest.now) }
+{
     let name = words.expect("a name")?;
     words.keyword("in", "`in` and a crate")?;
     let within = words.expect("a crate")?;
@@ -90,31 +136,25 @@ fn read_meaning<'a>(
 }
 
 // `NAME`, or `NAME over MODEL`.
-fn read_model<'a>(words: &mut StatementWords<'a>) -> Result<Statement<'a>, Complaint> {
+fn read_model<'a>(words: &mut StatementWords<'a>) -> Result<(Word<'a>, Option<Word<'a>>), Complaint>
+    ensures model { IfOk result (λ t. IsWord t.0 (first_word words.old.words.rest.now) × MayGoOn (codes "over") t.1 (after_word words.old.words.rest.now)) }
+    ensures rest { IfOk result (λ t. words.new.words.rest.now ≡ after_going_on t.1 (after_word words.old.words.rest.now)) }
+{
     let name = words.expect("the model's name")?;
-    let below = match words.next_word() {
-        None => None,
-        Some(word) if word.is("over") => Some(words.expect("the name of a model declared above")?),
-        Some(word) => {
-            return Err(Complaint::at(
-                word,
-                "this word cannot stand here",
-                "`over` and the name of a model declared above, or the end of the line",
-            ));
-        }
-    };
-    Ok(Statement::Model(name, below))
-}
-
-fn defined<'a>(kind: ItemKind, words: &mut StatementWords<'a>) -> Result<Statement<'a>, Complaint> {
-    Ok(Statement::Defined(kind, read_site(words)?))
+    let below = read_more(
+        "over",
+        "`over` and the name of a model declared above, or the end of the line",
+        "the name of a model declared above",
+        words,
+    )?;
+    Ok((name, below))
 }
 
 impl<'a> Statement<'a> {
     /// The statement of a line, if it has one, and its first word.
-    pub fn of(
-        mut words: StatementWords<'a>,
-    ) -> Result<Option<(Word<'a>, Statement<'a>)>, Complaint> {
+    pub fn of(mut words: StatementWords<'a>) -> Result<Option<(Word<'a>, Statement<'a>)>, Complaint>
+        ensures { IfOk result (IsRead words.entry.words.rest.now) }
+    {
         let Some(verb) = words.next_word() else {
             return Ok(None);
         };
@@ -124,7 +164,9 @@ impl<'a> Statement<'a> {
     }
 
     /// Whether it may stand below a model: it tells nothing of the tree, nor of the tables beside it.
-    pub fn stands_below_models(self) -> bool {
+    pub fn stands_below_models(self) -> bool
+        ensures { result ≡ stands_below_models self.entry }
+    {
         matches!(
             self,
             Statement::Defined(_, _)
@@ -134,8 +176,11 @@ impl<'a> Statement<'a> {
         )
     }
 
-    fn after(verb: Word<'a>, words: &mut StatementWords<'a>) -> Result<Statement<'a>, Complaint> {
-        match std::str::from_utf8(verb.text).unwrap_or("") {
+    fn after(verb: Word<'a>, words: &mut StatementWords<'a>) -> Result<Statement<'a>, Complaint>
+        ensures spelt { IfOk result (Spells verb.entry.text.now words.old.words.rest.now) }
+        ensures rest { IfOk result (λ s. words.new.words.rest.now ≡ after_statement s words.old.words.rest.now) }
+    {
+        match text_or_nothing(verb) {
             "crate" => {
                 let name = words.expect("the crate's name")?;
                 Ok(Statement::Crate(name, read_edition(words.expect(EDITION)?)?))
@@ -146,13 +191,13 @@ impl<'a> Statement<'a> {
             }
             "block" => Ok(Statement::Block(words.expect("the block's full name")?)),
             "item" => Ok(Statement::Item(read_site(words)?)),
-            "fn" => defined(ItemKind::Function, words),
-            "const" => defined(ItemKind::Const, words),
-            "static" => defined(ItemKind::Static, words),
-            "union" => defined(ItemKind::Union, words),
-            "enum" => defined(ItemKind::Enum, words),
-            "trait" => defined(ItemKind::Trait, words),
-            "type" => defined(ItemKind::TypeAlias, words),
+            "fn" => Ok(Statement::Defined(ItemKind::Function, read_site(words)?)),
+            "const" => Ok(Statement::Defined(ItemKind::Const, read_site(words)?)),
+            "static" => Ok(Statement::Defined(ItemKind::Static, read_site(words)?)),
+            "union" => Ok(Statement::Defined(ItemKind::Union, read_site(words)?)),
+            "enum" => Ok(Statement::Defined(ItemKind::Enum, read_site(words)?)),
+            "trait" => Ok(Statement::Defined(ItemKind::Trait, read_site(words)?)),
+            "type" => Ok(Statement::Defined(ItemKind::TypeAlias, read_site(words)?)),
             "struct" => {
                 let site = read_site(words)?;
                 Ok(Statement::Defined(ItemKind::Struct(read_shape(words)?), site))
@@ -165,10 +210,22 @@ impl<'a> Statement<'a> {
                 let name = words.expect("the variant's full name")?;
                 Ok(Statement::Variant(name, read_shape(words)?))
             }
-            "legacy-macro" => read_legacy(words),
-            "use" => read_use(Bringing::Named, words),
-            "use-glob" => read_use(Bringing::Glob, words),
-            "extern-crate" => read_use(Bringing::ExternCrate, words),
+            "legacy-macro" => {
+                let (name, module, meant) = read_legacy(words)?;
+                Ok(Statement::LegacyMacro(name, module, meant))
+            }
+            "use" => {
+                let (full, site) = read_use(Bringing::Named, words)?;
+                Ok(Statement::Use(Bringing::Named, full, site))
+            }
+            "use-glob" => {
+                let (full, site) = read_use(Bringing::Glob, words)?;
+                Ok(Statement::Use(Bringing::Glob, full, site))
+            }
+            "extern-crate" => {
+                let (full, site) = read_use(Bringing::ExternCrate, words)?;
+                Ok(Statement::Use(Bringing::ExternCrate, full, site))
+            }
             "extern-prelude" => {
                 let (name, within, meant) = read_meaning("the crate that it means", words)?;
                 Ok(Statement::ExternPrelude(name, within, meant))
@@ -186,7 +243,10 @@ impl<'a> Statement<'a> {
                 let path = words.expect("a path, as in `crate::layout::stripe_of`")?;
                 Ok(Statement::Path(path, read_asking(words)?))
             }
-            "model" => read_model(words),
+            "model" => {
+                let (name, below) = read_model(words)?;
+                Ok(Statement::Model(name, below))
+            }
             _ => Err(Complaint::at(
                 verb,
                 "no statement begins so",

@@ -1,7 +1,8 @@
 // The words of a statement, and what is wrong where one is missing or one too many.
-ghost use Rattle.source_text.specs.Words.{NextWord, after_word};
-ghost use Rattle.std.specs.Prelude.{◌≡◌};
+ghost use Rattle.source_text.specs.Words.{NextWord, first_word, after_word};
+ghost use Rattle.std.specs.Prelude.{◌≡◌, IfOk};
 ghost use Rattle.std.specs.Result.{result_ok};
+ghost use Rattle.statements.specs.Spelling.{BeforeComment, Ends};
 
 use bstr::ByteSlice;
 use source_text::words::{Word, Words};
@@ -15,7 +16,9 @@ pub struct StatementWords<'a> {
 
 impl<'a> StatementWords<'a> {
     /// The words of a text that is the line of that number.
-    pub fn of(text: &'a [u8], line: usize) -> StatementWords<'a> {
+    pub fn of(text: &'a [u8], line: usize) -> StatementWords<'a>
+        ensures { BeforeComment text.entry.now result.words.rest.now }
+    {
         let code = match text.split_once_str(b"//") {
             Some((code, _)) => code,
             None => text,
@@ -47,7 +50,10 @@ impl<'a> StatementWords<'a> {
     }
 
     /// Passes a word that has to stand there.
-    pub(crate) fn keyword(&mut self, text: &str, expected: &'static str) -> Result<(), Complaint> {
+    pub(crate) fn keyword(&mut self, text: &str, expected: &'static str) -> Result<(), Complaint>
+        ensures word { IfOk result (λ _. first_word self.old.words.rest.now ≡ text.now) }
+        ensures rest { self.new.words.rest.now ≡ after_word self.old.words.rest.now }
+    {
         let word = self.expect(expected)?;
         if word.is(text) {
             Ok(())
@@ -56,7 +62,9 @@ impl<'a> StatementWords<'a> {
         }
     }
 
-    pub(crate) fn expect_end(&mut self) -> Result<(), Complaint> {
+    pub(crate) fn expect_end(&mut self) -> Result<(), Complaint>
+        ensures { IfOk result (λ _. Ends self.old.words.rest.now) }
+    {
         match self.next_word() {
             Some(word) => Err(Complaint::at(
                 word,
