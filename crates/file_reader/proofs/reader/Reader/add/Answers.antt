@@ -1,4 +1,3 @@
-use Rattle.std.proofs.Common.{rules, OnOk, ◌≡◌}
 use Rattle.file_reader.proofs.reader.Reader.add.Goals as goal
 
 -- src/reader.rt:51:5
