@@ -1,15 +1,12 @@
 -- What a statement adds to what a file tells.
-use Rattle.std.specs.Prelude.{Some, None, ⊤}
+use Rattle.std.specs.Prelude.{Some, None}
 use Rattle.entries.specs.declared.visibility.Visibility.{Visibility}
 use Rattle.file_reader.specs.declared.reader.Known.{Known}
 use Rattle.file_reader.specs.declared.reader.Reader.{Reader}
-use Rattle.file_reader.specs.Statements.{Imports}
-use Rattle.file_reader.specs.Tables.{AddsBlock, AddsCrate, AddsDefinition, AddsExternPrelude, AddsInner, AddsItem, AddsLegacy, AddsLegacyOf, AddsMacroUse, AddsPath, AddsPrelude}
-use Rattle.file_reader.specs.Variants.{AddsVariant}
+use Rattle.file_reader.specs.Tables.{AddsBlock, AddsCrate, AddsDefinition, AddsExternPrelude, AddsImport, AddsInner, AddsItem, AddsLegacy, AddsLegacyOf, AddsMacroUse, AddsModel, AddsPath, AddsPrelude, AddsVariant}
 use Rattle.statements.specs.declared.statement.Statement.{Statement}
 use Rattle.statements.specs.declared.statement.Statement.TheVariants as statement
 
--- Of a model this says nothing.
 abbrev pub Adds : Statement → Reader → Reader → Type 0
 Adds (statement.Crate name edition) old new = AddsCrate old name edition new
 Adds (statement.Module name vis) old new = AddsInner old name vis new
@@ -19,9 +16,9 @@ Adds (statement.Defined k s) old new = AddsDefinition old k s new
 Adds (statement.Variant name shape) old new = AddsVariant old name shape new
 Adds (statement.LegacyMacro name within None) old new = AddsLegacy old name within new
 Adds (statement.LegacyMacro name within (Some meant)) old new = AddsLegacyOf old name within new
-Adds (statement.Use b full s) old new = Imports old b s new
+Adds (statement.Use b full s) old new = AddsImport old b s new
 Adds (statement.ExternPrelude name krate meant) old new = AddsExternPrelude old name krate meant new
 Adds (statement.MacroUse name of meant) old new = AddsMacroUse old name of new
 Adds (statement.Prelude prelude of) old new = AddsPrelude old prelude of new
 Adds (statement.Path text asking) old new = AddsPath old text asking new
-Adds (statement.Model name below) old new = ⊤
+Adds (statement.Model name below) old new = AddsModel old name new

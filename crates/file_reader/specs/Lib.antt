@@ -1,5 +1,6 @@
 pub mod Adding
 pub mod Definitions
+pub mod Nothing
+pub mod Reading
 pub mod Statements
 pub mod Tables
-pub mod Variants

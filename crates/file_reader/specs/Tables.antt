@@ -10,13 +10,16 @@ use Rattle.entries.specs.declared.per_ns.PerNs.{PerNs}
 use Rattle.entries.specs.declared.visibility.Visibility.{Visibility}
 use Rattle.file_reader.specs.declared.reader.Known.{Known}
 use Rattle.file_reader.specs.declared.reader.Reader.{Reader}
-use Rattle.file_reader.specs.Statements.{known_of, Tells, deliveries}
+use Rattle.file_reader.specs.Statements.{known_of, Tells, deliveries, Imports}
+use Rattle.firmware.specs.Models.{reached}
 use Rattle.firmware.specs.declared.definition.Definition.{Definition}
 use Rattle.firmware.specs.declared.definitions.Definitions.{Definitions}
 use Rattle.firmware.specs.declared.file.Declared.{Declared}
+use Rattle.firmware.specs.declared.models.Model.{Model}
 use Rattle.firmware.specs.declared.tables.RowsTold.{RowsTold}
 use Rattle.hir_def.specs.declared.BlockId.{BlockId}
 use Rattle.hir_def.specs.declared.CrateId.{CrateId}
+use Rattle.hir_def.specs.declared.EnumId.{EnumId}
 use Rattle.hir_def.specs.declared.MacroId.{MacroId}
 use Rattle.hir_def.specs.declared.ModuleDefId.TheVariants as def
 use Rattle.hir_def.specs.declared.ModuleId.{ModuleId}
@@ -44,9 +47,11 @@ use Rattle.statements.specs.declared.asking.Asking.{Asking}
 use Rattle.statements.specs.Names.{Parts}
 use Rattle.statements.specs.declared.clauses.RawVisibility.{RawVisibility}
 use Rattle.statements.specs.declared.clauses.Site.{Site}
+use Rattle.statements.specs.declared.kinds.Bringing.{Bringing}
 use Rattle.statements.specs.declared.kinds.ItemKind.{ItemKind}
 use Rattle.statements.specs.declared.kinds.ItemKind.TheVariants as kind
-use Rattle.statements.specs.Kinds.{entries_of}
+use Rattle.statements.specs.declared.kinds.Shape.{Shape}
+use Rattle.statements.specs.Kinds.{entries_of, has_constructor}
 
 -- the rows of a table
 abbrev pub rows : {K V : Type 0} → RowsTold K V → List (Row K V)
@@ -56,7 +61,7 @@ rows t = vec_items t.rows
 abbrev pub item_told : Declared → List ℕ × (List ℕ × Visibility)
 item_told d = (d.name.now, (d.«module».now, d.vis))
 
--- what a file tells as far as it is read: its names, the modules that are declared above, its definitions, the rows of its tables, its items, deliveries and paths
+-- what a file tells as far as it is read: its names, the modules that are declared above, its definitions, the rows of its tables, its items, deliveries, paths and models
 pub record Told : Type 0 where
   pub names : List (List ℕ)
   pub above : BTreeMap (Bor (List ℕ)) Known
@@ -74,6 +79,7 @@ pub record Told : Type 0 where
   pub legacy : List (Row ModuleName MacroId)
   pub variants : List (Row EnumName EnumVariant)
   pub styles : List CallStyles
+  pub models : List Model
 
 abbrev pub told_by : Reader → Told
 told_by r = record {
@@ -93,6 +99,7 @@ told_by r = record {
   legacy = rows r.firmware.tables.legacy;
   variants = rows r.firmware.tables.variants;
   styles = vec_items r.firmware.tables.styles;
+  models = vec_items r.firmware.models;
 }
 
 -- what is asked of a path: by the module that is named, with the options that are told; nothing where nobody asks
@@ -298,3 +305,28 @@ AddsLegacyOf old name m new =
       names = new.firmware.list;
       legacy = rows old.firmware.tables.legacy ++ record { key = record { at = at; name = n }; value = d } ∷ [];
     })
+
+-- An import adds what it delivers, and a definition.
+abbrev pub AddsImport : Reader → Bringing → Site → Reader → Type 0
+AddsImport old b s new =
+    Imports old b s new
+    × (told_by new ≡ record (told_by old) { names = new.firmware.list; definitions = new.firmware.definitions; delivered = deliveries new })
+
+-- A variant is numbered by its turn among all that are counted with it. It is delivered nowhere. Which enum it is of this does not say.
+abbrev pub AddsVariant : Reader → Word → Shape → Reader → Type 0
+AddsVariant old w shape new =
+    (outer : Word) × (name : Word) × (of : EnumId) × (n : Name) × (v : EnumVariant)
+    × IsSplit w.text.now outer name
+    × IsNumber new.firmware.list name.text.now n
+    × (v ≡ record { variant = record { 0 = length (vec_items old.firmware.definitions.others) }; has_constructor = has_constructor shape })
+    × (told_by new ≡ record (told_by old) {
+      names = new.firmware.list;
+      definitions = new.firmware.definitions;
+      variants = rows old.firmware.tables.variants ++ record { key = record { of = of; name = n }; value = v } ∷ [];
+    })
+
+-- A model of that name begins a part of the file. Over which model it stands this does not say.
+abbrev pub AddsModel : Reader → Word → Reader → Type 0
+AddsModel old w new =
+    (m : Model) × (m.name.now ≡ w.text.now) × (m.began ≡ reached old.firmware)
+    × (told_by new ≡ record (told_by old) { models = vec_items old.firmware.models ++ m ∷ [] })

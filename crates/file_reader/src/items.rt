@@ -2,9 +2,8 @@
 ghost use Rattle.std.specs.Prelude.{◌≡◌, ◌++◌, ◌∷◌, [], IfOk, OnOk, length, vec_items};
 ghost use Rattle.file_reader.specs.Definitions.{Grows, Keeps, items_of};
 ghost use Rattle.firmware.specs.declared.definition.Standing.TheVariants.{Place};
-ghost use Rattle.file_reader.specs.Statements.{imports_of, Imports};
-ghost use Rattle.file_reader.specs.Tables.{rows, defined_as, Defines, AddsDefinition, AddsExternPrelude, AddsLegacy, AddsLegacyOf, AddsMacroUse, AddsPrelude, IsCrate, IsMap};
-ghost use Rattle.file_reader.specs.Variants.{AddsVariant};
+ghost use Rattle.file_reader.specs.Statements.{imports_of};
+ghost use Rattle.file_reader.specs.Tables.{rows, defined_as, Defines, AddsDefinition, AddsExternPrelude, AddsImport, AddsLegacy, AddsLegacyOf, AddsMacroUse, AddsPrelude, AddsVariant, IsCrate, IsMap};
 
 use crate::reader::Reader;
 use entries::per_ns::PerNs;
@@ -263,7 +262,7 @@ impl<'a> Reader<'a> {
         full: Word<'a>,
         site: Site<'a>,
     ) -> Result<(), Failure<Trouble>>
-        ensures { OnOk result (Imports self.old bringing site.entry self.new) }
+        ensures { OnOk result (AddsImport self.old bringing site.entry self.new) }
     {
         let at = self.known(site.module)?;
         let vis = self.visibility(at, site.vis)?;

@@ -1,4 +1,7 @@
 // What the statements of models add to a file: each begins a part of it.
+ghost use Rattle.std.specs.Prelude.{OnOk};
+ghost use Rattle.file_reader.specs.Tables.{AddsModel};
+
 use crate::reader::Reader;
 use firmware::models::Model;
 use firmware::pile::{Part, Pile};
@@ -42,7 +45,9 @@ impl<'a> Reader<'a> {
         &mut self,
         word: Word<'a>,
         below: Option<Word<'a>>,
-    ) -> Result<(), Failure<Trouble>> {
+    ) -> Result<(), Failure<Trouble>>
+        ensures { OnOk result (AddsModel self.old word.entry self.new) }
+    {
         if self.model_numbers.contains_key(word.text) {
             return Err(Failure::from(Complaint::at(
                 word,

@@ -1,4 +1,8 @@
 // A file that declares nothing yet.
+ghost use Rattle.std.specs.Prelude.{◌≡◌, [], IfOk};
+ghost use Rattle.file_reader.specs.Nothing.{Undefined, Untold, TellsNothing};
+ghost use Rattle.file_reader.specs.Tables.{rows};
+
 use firmware::definitions::Definitions;
 use firmware::file::Firmware;
 use firmware::tables::{IndexRows, RowsTold};
@@ -7,7 +11,9 @@ use std::alloc::{AllocError, Global};
 
 const BUILTIN_NAMES: u32 = 19;
 
-fn no_definitions<'a>(alloc: Global) -> Definitions<'a> {
+fn no_definitions<'a>(alloc: Global) -> Definitions<'a>
+    ensures { Undefined result }
+{
     Definitions {
         modules: Vec::new(alloc),
         enums: Vec::new(alloc),
@@ -20,14 +26,18 @@ fn no_definitions<'a>(alloc: Global) -> Definitions<'a> {
     }
 }
 
-fn no_rows<'a, K: Copy, V: Copy>(alloc: Global) -> RowsTold<'a, K, V> {
+fn no_rows<'a, K: Copy, V: Copy>(alloc: Global) -> RowsTold<'a, K, V>
+    ensures { rows result ≡ [] }
+{
     RowsTold {
         rows: Vec::new(alloc),
         words: Vec::new(alloc),
     }
 }
 
-fn no_tables<'a>(alloc: Global) -> IndexRows<'a> {
+fn no_tables<'a>(alloc: Global) -> IndexRows<'a>
+    ensures { Untold result }
+{
     IndexRows {
         extern_prelude: no_rows(alloc),
         macro_use: no_rows(alloc),
@@ -39,7 +49,9 @@ fn no_tables<'a>(alloc: Global) -> IndexRows<'a> {
 }
 
 /// The built-in names stand in its list already.
-pub(crate) fn nothing<'a>(alloc: Global) -> Result<Firmware<'a>, AllocError> {
+pub(crate) fn nothing<'a>(alloc: Global) -> Result<Firmware<'a>, AllocError>
+    ensures { IfOk result TellsNothing }
+{
     Ok(Firmware {
         names: Vec::new(alloc),
         modules: Vec::new(alloc),

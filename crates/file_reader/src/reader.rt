@@ -1,6 +1,8 @@
 // Reads a firmware file, statement by statement.
-ghost use Rattle.std.specs.Prelude.{OnOk};
+ghost use Rattle.std.specs.Prelude.{IfOk, OnOk};
 ghost use Rattle.file_reader.specs.Adding.{Adds};
+ghost use Rattle.file_reader.specs.Nothing.{IsNew};
+ghost use Rattle.file_reader.specs.Reading.{ReadsLine, Reads};
 
 use crate::models::below_a_model;
 use crate::nothing::nothing;
@@ -10,7 +12,6 @@ use firmware::pile::Part;
 use hir_def::fault::Failure;
 use hir_def::{BlockId, CrateId, ModuleId};
 use item_scope::index_data::DefMapId;
-use source_text::words::Word;
 use statements::statement::Statement;
 use statements::words::StatementWords;
 use std::alloc::{AllocError, Global};
@@ -38,7 +39,9 @@ pub(crate) struct Reader<'a> {
 }
 
 impl<'a> Reader<'a> {
-    fn new(alloc: Global) -> Result<Reader<'a>, AllocError> {
+    fn new(alloc: Global) -> Result<Reader<'a>, AllocError>
+        ensures { IfOk result IsNew }
+    {
         Ok(Reader {
             firmware: nothing(alloc)?,
             by_name: BTreeMap::new(alloc),
@@ -47,13 +50,10 @@ impl<'a> Reader<'a> {
         })
     }
 
-    // Adds what a statement tells, which begins with that word.
-    fn add(&mut self, verb: Word<'a>, statement: Statement<'a>) -> Result<(), Failure<Trouble>>
+    // Adds what a statement tells.
+    fn add(&mut self, statement: Statement<'a>) -> Result<(), Failure<Trouble>>
         ensures { OnOk result (Adds statement.entry self.old self.new) }
     {
-        if !self.firmware.models.is_empty() && !statement.stands_below_models() {
-            return Err(Failure::from(below_a_model(verb)));
-        }
         match statement {
             Statement::Crate(name, edition) => self.add_crate(name, edition),
             Statement::Module(name, raw) => self.add_inner(name, raw),
@@ -78,16 +78,28 @@ impl<'a> Reader<'a> {
             Statement::Model(name, below) => self.add_model(name, below),
         }
     }
+
+    // Adds what the line of that number tells.
+    fn take_line(&mut self, line: &'a [u8], number: usize) -> Result<(), Failure<Trouble>>
+        ensures { OnOk result (ReadsLine line.now self.old self.new) }
+    {
+        let Some((verb, statement)) = Statement::of(StatementWords::of(line, number))? else {
+            return Ok(());
+        };
+        if !self.firmware.models.is_empty() && !statement.stands_below_models() {
+            return Err(Failure::from(below_a_model(verb)));
+        }
+        self.add(statement)
+    }
 }
 
 /// Reads a whole file, or says what is wrong with its first bad line.
-pub fn read_firmware<'a>(alloc: Global, text: &'a [u8]) -> Result<Firmware<'a>, Failure<Trouble>> {
+pub fn read_firmware<'a>(alloc: Global, text: &'a [u8]) -> Result<Firmware<'a>, Failure<Trouble>>
+    ensures { IfOk result (Reads text.now) }
+{
     let mut reader = Reader::new(alloc)?;
     for (i, line) in text.split(|b| *b == b'\n').enumerate() {
-        let words = StatementWords::of(line, i.saturating_add(1));
-        if let Some((verb, statement)) = Statement::of(words)? {
-            reader.add(verb, statement)?;
-        }
+        reader.take_line(line, i.saturating_add(1))?;
     }
     Ok(reader.firmware)
 }
