@@ -1,7 +1,7 @@
 #!/usr/bin/env python3
 """Plants bugs by hand, one to a function, in a copy of the repository, and tells who catches each.
 
-    python3 tools/planted.py COPY [--crate NAME] [--bug NAME,NAME..] [--alone] [--tests] [--log FOLDER]
+    python3 tools/planted.py COPY [--edits] [--crate NAME] [--bug NAME,NAME..] [--alone] [--tests] [--log FOLDER]
 
 COPY is a clone whose crates have been checked once (`rt check` in each, lowest first), so that a check costs what was turned.
 `planted_bugs.txt` beside this script has the bugs: `CRATE FILE NAME`, then pairs of lines `- OLD` and `+ NEW`, where OLD stands
@@ -12,6 +12,8 @@ A function is proved from its own text, from contracts and from definitions, and
 that stand in different functions are planted together and checked at once, and each is judged by its own function. A bug that turns
 no function (a type, a constant), and each that is not refused in its own function, is planted alone; so is one whose function calls one
 that has no proof then, since that is not looked at. A second bug of the same function comes in the next round. `--alone` plants every bug alone.
+With `--edits` the bugs are what the must-fail edits that turn several functions do to each of these, so that it is seen of each whether it
+is refused.
 
 For each bug one line is printed: the crate, the name, and
 
@@ -94,6 +96,24 @@ def bugs():
         lines = [line for line in block.split("\n") if line and not line.startswith("#")]
         if lines:
             yield Bug(lines)
+
+
+# What the must-fail edits that turn several functions do to each of them.
+def parts_of_edits(copy):
+    for edit in sorted(copy.glob("crates/*/must-fail/*.edit")):
+        crate, parts, file, old = edit.parts[-3], {}, None, None
+        for line in edit.read_text().split("\n"):
+            if line.startswith("file: "):
+                file = line[6:]
+            elif line.startswith("old: "):
+                old = line[5:]
+            elif line.startswith("new:"):
+                text = (copy / "crates" / crate / file).read_text()
+                function = function_at(text.split("\n"), text[: text.index(old)].count("\n"))
+                parts.setdefault((file, function), []).extend([f"- {old}", f"+ {line[5:]}"])
+        if len(parts) > 1:
+            for number, ((file, _), pairs) in enumerate(parts.items(), 1):
+                yield Bug([f"{crate} {file} {edit.stem}.{number}", *pairs])
 
 
 def run(folder, *words, stdin=None):
@@ -259,7 +279,8 @@ def main():
     if log:
         log.mkdir(parents=True, exist_ok=True)
     names = (option("--bug") or "").split(",") if option("--bug") else []
-    wanted = [b for b in bugs() if option("--crate") in (None, b.crate) and (not names or b.name in names)]
+    listed = parts_of_edits(copy) if "--edits" in words else bugs()
+    wanted = [b for b in listed if option("--crate") in (None, b.crate) and (not names or b.name in names)]
     by_crate = {}
     for bug in wanted:
         text = (copy / "crates" / bug.crate / bug.file).read_text()

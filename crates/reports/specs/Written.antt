@@ -1,5 +1,5 @@
 -- What is written of a file before its report, and of the answer to a path.
-use Rattle.std.specs.Prelude.{ℕ, List, ◌++◌, Some, None, Option, length, codes, vec_items}
+use Rattle.std.specs.Prelude.{◌≡◌, ℕ, List, ◌++◌, Some, None, Option, length, codes, vec_items}
 use Rattle.hir_def.specs.declared.Name.{Name}
 use Rattle.hir_def.specs.declared.Namespace.TheVariants as namespace
 use Rattle.firmware.specs.declared.survey.Survey.{Survey}
@@ -9,6 +9,7 @@ use Rattle.reports.specs.declared.style.Form.TheVariants.{Text, Lines, Json}
 use Rattle.path_resolution.specs.declared.answer.ResolvePathResult.{ResolvePathResult}
 use Rattle.path_resolution.specs.declared.question.Question.{Question}
 use Rattle.wording.specs.Answers.{answer_report, answer_line}
+use Rattle.wording.specs.declared.answers.AnswerLine.{AnswerLine}
 use Rattle.wording.specs.Holders.{entry_at}
 use Rattle.report_json.specs.Json.{value_line, file_data}
 use Rattle.wording.specs.Shown.{held}
@@ -22,6 +23,14 @@ heading Json path s = value_line (file_data path (length (rows_in s.tables).tree
 -- the full names of a file's modules
 abbrev names_of : Survey → List (List ℕ)
 names_of s = held (vec_items s.firmware.now.names)
+
+-- an answer's line has the file's names and list, the question, the answer, and the entry of each namespace
+abbrev pub IsLine : Survey → List Name → Question → ResolvePathResult → AnswerLine → Type 0
+IsLine s path q a line =
+    let at = entry_at s.firmware.now.definitions a.resolved_def in
+    (held line.names.now ≡ names_of s) × (line.question ≡ q)
+    × (line.told.list.now ≡ s.list.now) × (line.told.path.now ≡ path) × (line.told.answer ≡ a)
+    × (line.entries.types ≡ at namespace.Types) × (line.entries.values ≡ at namespace.Values) × (line.entries.macros ≡ at namespace.Macros)
 
 -- what is written of an answer for people
 abbrev pub answer_text : Survey → List Name → Question → ResolvePathResult → List ℕ

@@ -1,7 +1,7 @@
 // Writes what a path stands for where it is asked.
 ghost use Rattle.std.specs.Prelude.{OnOk};
 ghost use Rattle.std.specs.Io.KnownBytes.{Appends};
-ghost use Rattle.reports.specs.Written.{answer_text, answer_line_text};
+ghost use Rattle.reports.specs.Written.{IsLine, answer_text, answer_line_text};
 
 use crate::style::Form;
 use firmware::survey::Survey;
@@ -20,20 +20,18 @@ use troubles::trouble::FaultTold;
 use wording::answers::{AnswerLine, AnswerReport, AnswerTold, EntriesWords};
 use wording::holders::entry_holder;
 
-/// For people: who asks, the entry of each namespace, and what else is answered.
-pub fn write_told<W: io::Write>(
-    w: &mut W,
-    survey: &Survey,
-    path: &ModPath,
+// The answer to a path of a file, as its line.
+fn line_of<'a, 't>(
+    survey: &'a Survey<'_, 't>,
+    path: &'a ModPath,
     question: Question,
     answer: ResolvePathResult,
-) -> io::Result<()>
-    ensures { OnOk result (Appends (W.contents w.old) (W.contents w.new)
-        (answer_text survey.now path.now.names.items question answer)) }
+) -> AnswerLine<'a, 't>
+    ensures { IsLine survey.now path.now.names.items question answer result }
 {
     let definitions = &survey.firmware.definitions;
     let found = &answer.resolved_def;
-    let report = AnswerReport(AnswerLine {
+    AnswerLine {
         names: survey.firmware.names.as_slice(),
         question,
         told: AnswerTold {
@@ -46,7 +44,21 @@ pub fn write_told<W: io::Write>(
             values: entry_holder(definitions, found, Namespace::Values),
             macros: entry_holder(definitions, found, Namespace::Macros),
         },
-    });
+    }
+}
+
+/// For people: who asks, the entry of each namespace, and what else is answered.
+pub fn write_told<W: io::Write>(
+    w: &mut W,
+    survey: &Survey,
+    path: &ModPath,
+    question: Question,
+    answer: ResolvePathResult,
+) -> io::Result<()>
+    ensures { OnOk result (Appends (W.contents w.old) (W.contents w.new)
+        (answer_text survey.now path.now.names.items question answer)) }
+{
+    let report = AnswerReport(line_of(survey, path, question, answer));
     write!(w, "{report}")
 }
 
@@ -61,22 +73,7 @@ pub fn write_line<W: io::Write>(
     ensures { OnOk result (Appends (W.contents w.old) (W.contents w.new)
         (answer_line_text survey.now path.now.names.items question answer)) }
 {
-    let definitions = &survey.firmware.definitions;
-    let found = &answer.resolved_def;
-    let line = AnswerLine {
-        names: survey.firmware.names.as_slice(),
-        question,
-        told: AnswerTold {
-            list: survey.list,
-            path: path.names.as_slice(),
-            answer,
-        },
-        entries: EntriesWords {
-            types: entry_holder(definitions, found, Namespace::Types),
-            values: entry_holder(definitions, found, Namespace::Values),
-            macros: entry_holder(definitions, found, Namespace::Macros),
-        },
-    };
+    let line = line_of(survey, path, question, answer);
     write!(w, "{line}\n")
 }
 
