@@ -1,5 +1,5 @@
 -- What is written of a file before its report, and of the answer to a path.
-use Rattle.std.specs.Prelude.{◌≡◌, ℕ, List, ◌++◌, Some, None, Option, length, codes, vec_items}
+use Rattle.std.specs.Prelude.{ℕ, List, ◌++◌, Some, None, Option, length, codes, vec_items}
 use Rattle.hir_def.specs.declared.Name.{Name}
 use Rattle.hir_def.specs.declared.Namespace.TheVariants as namespace
 use Rattle.firmware.specs.declared.survey.Survey.{Survey}
@@ -24,14 +24,6 @@ heading Json path s = value_line (file_data path (length (rows_in s.tables).tree
 abbrev names_of : Survey → List (List ℕ)
 names_of s = held (vec_items s.firmware.now.names)
 
--- an answer's line has the file's names and list, the question, the answer, and the entry of each namespace
-abbrev pub IsLine : Survey → List Name → Question → ResolvePathResult → AnswerLine → Type 0
-IsLine s path q a line =
-    let at = entry_at s.firmware.now.definitions a.resolved_def in
-    (held line.names.now ≡ names_of s) × (line.question ≡ q)
-    × (line.told.list.now ≡ s.list.now) × (line.told.path.now ≡ path) × (line.told.answer ≡ a)
-    × (line.entries.types ≡ at namespace.Types) × (line.entries.values ≡ at namespace.Values) × (line.entries.macros ≡ at namespace.Macros)
-
 -- what is written of an answer for people
 abbrev pub answer_text : Survey → List Name → Question → ResolvePathResult → List ℕ
 answer_text s path q a =
@@ -48,3 +40,10 @@ answer_line_text s path q a =
 abbrev pub path_text_or : Option (List ℕ) → List ℕ
 path_text_or (Some text) = text
 path_text_or None = codes "with a name that the list does not have"
+
+-- what an answer's line is written as, for people and as a line
+abbrev pub report_shown : AnswerLine → List ℕ
+report_shown l = answer_report (held l.names.now) l.told.list.now l.told.path.now l.question l.told.answer l.entries.types l.entries.values l.entries.macros
+
+abbrev pub line_shown : AnswerLine → List ℕ
+line_shown l = answer_line (held l.names.now) l.told.list.now l.told.path.now l.question l.told.answer l.entries.types l.entries.values l.entries.macros

@@ -1,7 +1,7 @@
 // Writes what a path stands for where it is asked.
-ghost use Rattle.std.specs.Prelude.{OnOk};
+ghost use Rattle.std.specs.Prelude.{◌≡◌, ◌++◌, OnOk, codes};
 ghost use Rattle.std.specs.Io.KnownBytes.{Appends};
-ghost use Rattle.reports.specs.Written.{IsLine, answer_text, answer_line_text};
+ghost use Rattle.reports.specs.Written.{answer_text, answer_line_text, line_shown, report_shown};
 
 use crate::style::Form;
 use firmware::survey::Survey;
@@ -27,7 +27,8 @@ fn line_of<'a, 't>(
     question: Question,
     answer: ResolvePathResult,
 ) -> AnswerLine<'a, 't>
-    ensures { IsLine survey.now path.now.names.items question answer result }
+    ensures report { report_shown result ≡ answer_text survey.now path.now.names.items question answer }
+    ensures line { line_shown result ++ codes "\n" ≡ answer_line_text survey.now path.now.names.items question answer }
 {
     let definitions = &survey.firmware.definitions;
     let found = &answer.resolved_def;
