@@ -33,61 +33,79 @@ begins_meaning verb = bytes_eq verb (codes "extern-prelude") || bytes_eq verb (c
 -- what some statement with that first word has after it
 unfoldable pub Follows : List ℕ → List ℕ → Type 0
 Follows verb text =
-    MatchBool (bytes_eq verb (codes "crate")) ((name : Word) × (e : Edition) × IsWord name (word 0 text) × (word 1 text ≡ edition_text e))
-    (MatchBool (bytes_eq verb (codes "module")) ((name : Word) × (vis : RawVisibility) × IsWord name (word 0 text) × MaySay vis (after_word text))
-    (MatchBool (bytes_eq verb (codes "block")) ((name : Word) × IsWord name (word 0 text))
-    (MatchBool (begins_site verb) ((s : Site) × IsSite s text)
-    (MatchBool (bytes_eq verb (codes "struct")) ((s : Site) × (shape : Shape) × (shape_of (word 0 (after_site s text)) ≡ Some shape) × IsSite s text)
-    (MatchBool (bytes_eq verb (codes "macro")) ((s : Site) × (styles : CallStyles) × AreStyles styles (after_site s text) × IsSite s text)
-    (MatchBool (bytes_eq verb (codes "variant")) ((name : Word) × (shape : Shape) × IsWord name (word 0 text) × (shape_of (word 1 text) ≡ Some shape))
-    (MatchBool (bytes_eq verb (codes "legacy-macro")) ((name : Word) × (at : Word) × (meant : Option Word) × IsLegacy name at meant text)
-    (MatchBool (bytes_eq verb (codes "use")) ((f : Word) × (s : Site) × IsImport bringing.Named f s text)
-    (MatchBool (bytes_eq verb (codes "use-glob")) ((f : Word) × (s : Site) × IsImport bringing.Glob f s text)
-    (MatchBool (bytes_eq verb (codes "extern-crate")) ((f : Word) × (s : Site) × IsImport bringing.ExternCrate f s text)
-    (MatchBool (begins_meaning verb) ((name : Word) × (within : Word) × (meant : Word) × IsMeaning name within meant text)
-    (MatchBool (bytes_eq verb (codes "prelude")) ((at : Word) × (within : Word) × IsWord at (word 0 text) × (word 1 text ≡ codes "in") × IsWord within (word 2 text))
-    (MatchBool (bytes_eq verb (codes "path")) ((path : Word) × (asking : Option Asking) × IsWord path (word 0 text) × MayAsk asking (after_word text))
-    (MatchBool (bytes_eq verb (codes "model")) ((name : Word) × (below : Option Word) × IsModel name below text)
+    MatchBool (bytes_eq verb (codes "crate"))
+    ((name : Word) × (e : Edition) × IsWord name (word 0 text) × (word 1 text ≡ edition_text e))
+    (MatchBool (bytes_eq verb (codes "module"))
+    ((name : Word) × (vis : RawVisibility) × IsWord name (word 0 text) × MaySay vis (after_word text))
+    (MatchBool (bytes_eq verb (codes "block"))
+    ((name : Word) × IsWord name (word 0 text))
+    (MatchBool (begins_site verb)
+    ((s : Site) × IsSite s text)
+    (MatchBool (bytes_eq verb (codes "struct"))
+    ((s : Site) × (shape : Shape) × (shape_of (word 0 (after_site s text)) ≡ Some shape) × IsSite s text)
+    (MatchBool (bytes_eq verb (codes "macro"))
+    ((s : Site) × (styles : CallStyles) × AreStyles styles (after_site s text) × IsSite s text)
+    (MatchBool (bytes_eq verb (codes "variant"))
+    ((name : Word) × (shape : Shape) × IsWord name (word 0 text) × (shape_of (word 1 text) ≡ Some shape))
+    (MatchBool (bytes_eq verb (codes "legacy-macro"))
+    ((name : Word) × (at : Word) × (meant : Option Word) × IsLegacy name at meant text)
+    (MatchBool (bytes_eq verb (codes "use"))
+    ((f : Word) × (s : Site) × IsImport bringing.Named f s text)
+    (MatchBool (bytes_eq verb (codes "use-glob"))
+    ((f : Word) × (s : Site) × IsImport bringing.Glob f s text)
+    (MatchBool (bytes_eq verb (codes "extern-crate"))
+    ((f : Word) × (s : Site) × IsImport bringing.ExternCrate f s text)
+    (MatchBool (begins_meaning verb)
+    ((name : Word) × (within : Word) × (meant : Word) × IsMeaning name within meant text)
+    (MatchBool (bytes_eq verb (codes "prelude"))
+    ((at : Word) × (within : Word)
+    × IsWord at (word 0 text) × (word 1 text ≡ codes "in") × IsWord within (word 2 text))
+    (MatchBool (bytes_eq verb (codes "path"))
+    ((path : Word) × (asking : Option Asking) × IsWord path (word 0 text) × MayAsk asking (after_word text))
+    (MatchBool (bytes_eq verb (codes "model"))
+    ((name : Word) × (below : Option Word) × IsModel name below text)
     ⊥))))))))))))))
 
-follows_with : (verb v text : List ℕ) → verb ≡ v → Follows v text → Follows verb text
-follows_with verb v text e f = subst (λ (w : List ℕ). Follows w text) (sym e) f
+module _ (verb text : List ℕ) where
+  after_it : (v : List ℕ) → verb ≡ v → Follows v text → Follows verb text
+  after_it v e f = subst (λ (w : List ℕ). Follows w text) (sym e) f
 
-follows : (verb text : List ℕ) (s : Statement) → Spells verb text s → Follows verb text
-unfolding Follows
-follows verb text (statement.Crate name e) h = follows_with verb (codes "crate") text h.0 (name, e, h.1, h.2)
-follows verb text (statement.Module name vis) h = follows_with verb (codes "module") text h.0 (name, vis, h.1, h.2)
-follows verb text (statement.Block name) h = follows_with verb (codes "block") text h.0 (name, h.1)
-follows verb text (statement.Item s) h = follows_with verb (codes "item") text h.0 (s, h.1)
-follows verb text (statement.Defined kind.Function s) h = follows_with verb (codes "fn") text h.0 (s, h.1)
-follows verb text (statement.Defined kind.Const s) h = follows_with verb (codes "const") text h.0 (s, h.1)
-follows verb text (statement.Defined kind.Static s) h = follows_with verb (codes "static") text h.0 (s, h.1)
-follows verb text (statement.Defined (kind.Struct shape) s) h = follows_with verb (codes "struct") text h.0.0 (s, shape, h.0.1, h.1)
-follows verb text (statement.Defined kind.Union s) h = follows_with verb (codes "union") text h.0 (s, h.1)
-follows verb text (statement.Defined kind.Enum s) h = follows_with verb (codes "enum") text h.0 (s, h.1)
-follows verb text (statement.Defined kind.Trait s) h = follows_with verb (codes "trait") text h.0 (s, h.1)
-follows verb text (statement.Defined kind.TypeAlias s) h = follows_with verb (codes "type") text h.0 (s, h.1)
-follows verb text (statement.Defined (kind.Macro styles) s) h = follows_with verb (codes "macro") text h.0.0 (s, styles, h.0.1, h.1)
-follows verb text (statement.Defined (kind.Variant shape) s) h = absurd h.0
-follows verb text (statement.Variant name shape) h = follows_with verb (codes "variant") text h.0 (name, shape, h.1, h.2)
-follows verb text (statement.LegacyMacro name at meant) h = follows_with verb (codes "legacy-macro") text h.0 (name, at, meant, h.1)
-follows verb text (statement.Use bringing.Named f s) h = follows_with verb (codes "use") text h.0 (f, s, h.1)
-follows verb text (statement.Use bringing.Glob f s) h = follows_with verb (codes "use-glob") text h.0 (f, s, h.1)
-follows verb text (statement.Use bringing.ExternCrate f s) h = follows_with verb (codes "extern-crate") text h.0 (f, s, h.1)
-follows verb text (statement.ExternPrelude name within meant) h = follows_with verb (codes "extern-prelude") text h.0 (name, within, meant, h.1)
-follows verb text (statement.MacroUse name within meant) h = follows_with verb (codes "macro-use") text h.0 (name, within, meant, h.1)
-follows verb text (statement.Prelude at within) h = follows_with verb (codes "prelude") text h.0 (at, within, h.1, h.2, h.3)
-follows verb text (statement.Path path asking) h = follows_with verb (codes "path") text h.0 (path, asking, h.1, h.2)
-follows verb text (statement.Model name below) h = follows_with verb (codes "model") text h.0 (name, below, h.1)
+  follows : (s : Statement) → Spells verb text s → Follows verb text
+  unfolding Follows
+  follows (statement.Crate name e) h = after_it (codes "crate") h.0 (name, e, h.1, h.2)
+  follows (statement.Module name vis) h = after_it (codes "module") h.0 (name, vis, h.1, h.2)
+  follows (statement.Block name) h = after_it (codes "block") h.0 (name, h.1)
+  follows (statement.Item s) h = after_it (codes "item") h.0 (s, h.1)
+  follows (statement.Defined kind.Function s) h = after_it (codes "fn") h.0 (s, h.1)
+  follows (statement.Defined kind.Const s) h = after_it (codes "const") h.0 (s, h.1)
+  follows (statement.Defined kind.Static s) h = after_it (codes "static") h.0 (s, h.1)
+  follows (statement.Defined (kind.Struct shape) s) h = after_it (codes "struct") h.0.0 (s, shape, h.0.1, h.1)
+  follows (statement.Defined kind.Union s) h = after_it (codes "union") h.0 (s, h.1)
+  follows (statement.Defined kind.Enum s) h = after_it (codes "enum") h.0 (s, h.1)
+  follows (statement.Defined kind.Trait s) h = after_it (codes "trait") h.0 (s, h.1)
+  follows (statement.Defined kind.TypeAlias s) h = after_it (codes "type") h.0 (s, h.1)
+  follows (statement.Defined (kind.Macro styles) s) h = after_it (codes "macro") h.0.0 (s, styles, h.0.1, h.1)
+  follows (statement.Defined (kind.Variant shape) s) h = absurd h.0
+  follows (statement.Variant name shape) h = after_it (codes "variant") h.0 (name, shape, h.1, h.2)
+  follows (statement.LegacyMacro name at meant) h = after_it (codes "legacy-macro") h.0 (name, at, meant, h.1)
+  follows (statement.Use bringing.Named f s) h = after_it (codes "use") h.0 (f, s, h.1)
+  follows (statement.Use bringing.Glob f s) h = after_it (codes "use-glob") h.0 (f, s, h.1)
+  follows (statement.Use bringing.ExternCrate f s) h = after_it (codes "extern-crate") h.0 (f, s, h.1)
+  follows (statement.ExternPrelude name at meant) h = after_it (codes "extern-prelude") h.0 (name, at, meant, h.1)
+  follows (statement.MacroUse name at meant) h = after_it (codes "macro-use") h.0 (name, at, meant, h.1)
+  follows (statement.Prelude at within) h = after_it (codes "prelude") h.0 (at, within, h.1, h.2, h.3)
+  follows (statement.Path path asking) h = after_it (codes "path") h.0 (path, asking, h.1, h.2)
+  follows (statement.Model name below) h = after_it (codes "model") h.0 (name, below, h.1)
 
-no_statement : (verb v text : List ℕ) → verb ≡ v → ¬ (Follows v text) → (s : Statement) → ¬ (Spells verb text s)
-no_statement verb v text e none s h = none (subst (λ (w : List ℕ). Follows w text) e (follows verb text s h))
+  -- where nothing follows a first word, no statement begins with it
+  pub refuse : {T E : Type 0} (r : Result T E) (v : List ℕ) → verb ≡ v → ¬ (Follows v text)
+      → IfErr r (λ _. (s : Statement) → ¬ (Spells verb text s))
+  refuse r v e none =
+      let never : (s : Statement) → ¬ (Spells verb text s) = λ s h.
+      none (subst (λ (w : List ℕ). Follows w text) e (follows s h)) in
+      on_err r never
 
--- where nothing follows a first word, no statement begins with it
-pub refuse : {T E : Type 0} (r : Result T E) (verb v text : List ℕ) → verb ≡ v → ¬ (Follows v text) → IfErr r (λ _. (s : Statement) → ¬ (Spells verb text s))
-refuse r verb v text e none = on_err r (no_statement verb v text e none)
-
--- a text that is none of the first words, of a word whose text it is if that has one
+-- a text that is no first word, where a word of plain bytes has itself as its text
 module _ (r verb text : List ℕ) (its : (v : List ℕ) → is_plain v ≡ true → verb ≡ v → r ≡ v)
     (n1 : r ≢ codes "crate") (n2 : r ≢ codes "module") (n3 : r ≢ codes "block") (n4 : r ≢ codes "item")
     (n5 : r ≢ codes "fn") (n6 : r ≢ codes "const") (n7 : r ≢ codes "static") (n8 : r ≢ codes "union")

@@ -1,5 +1,5 @@
 -- Which words say no visibility.
-use Rattle.std.proofs.Common.{◌≡◌, ◌≢◌, ℕ, List, [], inl, inr, Ok, Err, Result, sym, subst}
+use Rattle.std.proofs.Common.{◌≡◌, ◌≢◌, List, ℕ, [], inl, inr, Ok, Err, Result, sym, subst}
 use Rattle.std.specs.Result.{IfErr}
 use Rattle.source_text.specs.Words.{first_word, after_word}
 use Rattle.statements.specs.Clauses.{Says}
@@ -19,16 +19,22 @@ none_says w next raw.Crate e h = cc
 none_says w next (raw.In m) e h = cc
 none_says w next raw.Private e h = cc
 
--- the words that come next, where they are given apart
-pub no_says : (text w rest : List ℕ) → w ≡ word 0 text → rest ≡ after_word text → ((vis : RawVisibility) → ¬ (Says w (first_word rest) vis)) → (vis : RawVisibility) → ¬ (Says (word 0 text) (word 1 text) vis)
-no_says text w rest e f none vis h =
-    none vis (subst (λ (v : List ℕ). Says v (first_word rest) vis) (sym e) (subst (λ (t : List ℕ). Says (word 0 text) (first_word t) vis) (sym f) h))
+-- a word, and what stands after it, that say no visibility
+module _ (text w rest : List ℕ) (first : w ≡ word 0 text) (after : rest ≡ after_word text) where
+  pub no_says : ((vis : RawVisibility) → ¬ (Says w (first_word rest) vis))
+      → (vis : RawVisibility) → ¬ (Says (word 0 text) (word 1 text) vis)
+  no_says none vis h =
+      let next = subst (λ (t : List ℕ). Says (word 0 text) (first_word t) vis) (sym after) h in
+      none vis (subst (λ (v : List ℕ). Says v (first_word rest) vis) (sym first) next)
 
-no_may_say : (text w rest : List ℕ) → w ≡ word 0 text → word 0 text ≢ [] → rest ≡ after_word text → ((vis : RawVisibility) → ¬ (Says w (first_word rest) vis)) → (vis : RawVisibility) → ¬ (MaySay vis text)
-no_may_say text w rest e some f none vis (inl h) = no_says text w rest e f none vis h
-no_may_say text w rest e some f none vis (inr h) = some h.0
+  no_may_say : word 0 text ≢ [] → ((vis : RawVisibility) → ¬ (Says w (first_word rest) vis))
+      → (vis : RawVisibility) → ¬ (MaySay vis text)
+  no_may_say some none vis (inl h) = no_says none vis h
+  no_may_say some none vis (inr h) = some h.0
 
--- the same where a visibility may be missing, but a word comes
-pub may_not_say : {T E : Type 0} (r : Result T E) (text w rest : List ℕ) → w ≡ word 0 text → word 0 text ≢ [] → rest ≡ after_word text → IfErr r (λ _. (vis : RawVisibility) → ¬ (Says w (first_word rest) vis)) → IfErr r (λ _. (vis : RawVisibility) → ¬ (MaySay vis text))
-may_not_say (Ok x) text w rest e some f none = tt
-may_not_say (Err x) text w rest e some f none = no_may_say text w rest e some f none
+  -- the same where a visibility may be missing, but a word comes
+  pub may_not_say : {T E : Type 0} (r : Result T E) → word 0 text ≢ []
+      → IfErr r (λ _. (vis : RawVisibility) → ¬ (Says w (first_word rest) vis))
+      → IfErr r (λ _. (vis : RawVisibility) → ¬ (MaySay vis text))
+  may_not_say (Ok x) some none = tt
+  may_not_say (Err x) some none = no_may_say some none

@@ -38,12 +38,12 @@ its_word r t (inr n) v some h =
     let k : false ≡ true = subst (λ (w : List ℕ). has_bytes w ≡ true) (sym h ∙ n.0) some in cc
 
 -- what is no edition's text
-pub no_edition : (r t : List ℕ) (u : UnknownEdition) → OrNothing r t → edition_of r ≡ Err u → (e : Edition) → t ≢ edition_text e
-no_edition r t u o q Edition2015 h =
-    let k : Ok Edition2015 ≡ Err u = subst (λ (w : List ℕ). edition_of w ≡ Err u) (its_text r t o (codes "2015") refl h) q in cc
-no_edition r t u o q Edition2018 h =
-    let k : Ok Edition2018 ≡ Err u = subst (λ (w : List ℕ). edition_of w ≡ Err u) (its_text r t o (codes "2018") refl h) q in cc
-no_edition r t u o q Edition2021 h =
-    let k : Ok Edition2021 ≡ Err u = subst (λ (w : List ℕ). edition_of w ≡ Err u) (its_text r t o (codes "2021") refl h) q in cc
-no_edition r t u o q Edition2024 h =
-    let k : Ok Edition2024 ≡ Err u = subst (λ (w : List ℕ). edition_of w ≡ Err u) (its_text r t o (codes "2024") refl h) q in cc
+module _ (r t : List ℕ) (u : UnknownEdition) (o : OrNothing r t) (unknown : edition_of r ≡ Err u) where
+  at_text : (v : List ℕ) → is_plain v ≡ true → t ≡ v → edition_of v ≡ Err u
+  at_text v plain h = subst (λ (w : List ℕ). edition_of w ≡ Err u) (its_text r t o v plain h) unknown
+
+  pub no_edition : (e : Edition) → t ≢ edition_text e
+  no_edition Edition2015 h = let k : Ok Edition2015 ≡ Err u = at_text (codes "2015") refl h in cc
+  no_edition Edition2018 h = let k : Ok Edition2018 ≡ Err u = at_text (codes "2018") refl h in cc
+  no_edition Edition2021 h = let k : Ok Edition2021 ≡ Err u = at_text (codes "2021") refl h in cc
+  no_edition Edition2024 h = let k : Ok Edition2024 ≡ Err u = at_text (codes "2024") refl h in cc

@@ -83,7 +83,8 @@ pub(crate) fn visibility_of<'a>(
     words: &mut StatementWords<'a>,
 ) -> Result<RawVisibility<'a>, Complaint>
     ensures says { IfOk result (Says word.entry.text.now (first_word words.old.words.rest.now)) }
-    ensures refused { IfErr result (λ _. (vis : RawVisibility) → ¬ (Says word.entry.text.now (first_word words.old.words.rest.now) vis)) }
+    ensures refused { IfErr result (λ _. (vis : RawVisibility) →
+        ¬ (Says word.entry.text.now (first_word words.old.words.rest.now) vis)) }
     ensures rest { IfOk result (λ vis. words.new.words.rest.now ≡ after_module vis words.old.words.rest.now) }
 {
     if word.is("pub") {
@@ -121,7 +122,8 @@ pub(crate) fn site_of<'a>(
 ) -> Result<Site<'a>, Complaint>
     ensures name { IfOk result (λ s. s.name.text.now ≡ name.entry.text.now) }
     ensures place { IfOk result (λ s. IsPlace s.«module» s.vis words.old.words.rest.now) }
-    ensures refused { IfErr result (λ _. (at : Word) (vis : RawVisibility) → ¬ (IsPlace at vis words.old.words.rest.now)) }
+    ensures refused { IfErr result (λ _. (at : Word) (vis : RawVisibility) →
+        ¬ (IsPlace at vis words.old.words.rest.now)) }
     ensures rest { IfOk result (λ s. words.new.words.rest.now ≡ after_visibility s.vis (after_words 2 words.old.words.rest.now)) }
 {
     words.keyword("in", WITHIN)?;

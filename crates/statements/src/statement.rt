@@ -69,7 +69,8 @@ fn read_legacy<'a>(
     words: &mut StatementWords<'a>,
 ) -> Result<(Word<'a>, Word<'a>, Option<Word<'a>>), Complaint>
     ensures legacy { IfOk result (λ t. IsLegacy t.0 t.1 t.2 words.old.words.rest.now) }
-    ensures refused { IfErr result (λ _. (name at : Word) (o : Option Word) → ¬ (IsLegacy name at o words.old.words.rest.now)) }
+    ensures refused { IfErr result (λ _. (name at : Word) (o : Option Word) →
+        ¬ (IsLegacy name at o words.old.words.rest.now)) }
     ensures rest { IfOk result (λ t. words.new.words.rest.now ≡ after_going_on t.2 (after_words 3 words.old.words.rest.now)) }
 {
     let name = words.expect("the macro's name")?;
@@ -93,7 +94,8 @@ fn read_import_name<'a>(
 ) -> Result<Word<'a>, Complaint>
     ensures name { IfOk result (λ name. IsImportName bringing full.entry.text.now name.text.now words.old.words.rest.now) }
     ensures within { IfOk result (λ _. word 0 (after_import_name words.old.words.rest.now) ≡ codes "in") }
-    ensures refused { IfErr result (λ _. (f name : List ℕ) → IsImportName bringing f name words.old.words.rest.now → word 0 (after_import_name words.old.words.rest.now) ≢ codes "in") }
+    ensures refused { IfErr result (λ _. (f name : List ℕ) → IsImportName bringing f name words.old.words.rest.now
+        → word 0 (after_import_name words.old.words.rest.now) ≢ codes "in") }
     ensures rest { IfOk result (λ _. words.new.words.rest.now ≡ after_word (after_import_name words.old.words.rest.now)) }
 {
     let is_glob = matches!(bringing, Bringing::Glob);
@@ -133,7 +135,8 @@ fn read_meaning<'a>(
     words: &mut StatementWords<'a>,
 ) -> Result<(Word<'a>, Word<'a>, Word<'a>), Complaint>
     ensures meaning { IfOk result (λ t. IsMeaning t.0 t.1 t.2 words.old.words.rest.now) }
-    ensures refused { IfErr result (λ _. (name within meant : Word) → ¬ (IsMeaning name within meant words.old.words.rest.now)) }
+    ensures refused { IfErr result (λ _. (name within meant : Word) →
+        ¬ (IsMeaning name within meant words.old.words.rest.now)) }
     ensures rest { IfOk result (λ _. words.new.words.rest.now ≡ after_words 5 words.old.words.rest.now) }
 {
     let name = words.expect("a name")?;
@@ -146,7 +149,8 @@ fn read_meaning<'a>(
 // `NAME`, or `NAME over MODEL`.
 fn read_model<'a>(words: &mut StatementWords<'a>) -> Result<(Word<'a>, Option<Word<'a>>), Complaint>
     ensures model { IfOk result (λ t. IsModel t.0 t.1 words.old.words.rest.now) }
-    ensures refused { IfErr result (λ _. (name : Word) (below : Option Word) → ¬ (IsModel name below words.old.words.rest.now)) }
+    ensures refused { IfErr result (λ _. (name : Word) (below : Option Word) →
+        ¬ (IsModel name below words.old.words.rest.now)) }
     ensures rest { IfOk result (λ t. words.new.words.rest.now ≡ after_going_on t.1 (after_word words.old.words.rest.now)) }
 {
     let name = words.expect("the model's name")?;
@@ -188,7 +192,8 @@ impl<'a> Statement<'a> {
 
     fn after(verb: Word<'a>, words: &mut StatementWords<'a>) -> Result<Statement<'a>, Complaint>
         ensures spelt { IfOk result (Spells verb.entry.text.now words.old.words.rest.now) }
-        ensures refused { IfErr result (λ _. (s : Statement) → ¬ (Spells verb.entry.text.now words.old.words.rest.now s)) }
+        ensures refused { IfErr result (λ _. (s : Statement) →
+            ¬ (Spells verb.entry.text.now words.old.words.rest.now s)) }
         ensures rest { IfOk result (λ s. words.new.words.rest.now ≡ after_statement s words.old.words.rest.now) }
     {
         match text_or_nothing(verb) {

@@ -52,7 +52,8 @@ impl<'a> StatementWords<'a> {
     /// Passes a word that has to stand there.
     pub(crate) fn keyword(&mut self, text: &str, expected: &'static str) -> Result<(), Complaint>
         ensures word { IfOk result (λ _. first_word self.old.words.rest.now ≡ text.now) }
-        ensures refused { IfErr result (λ _. Ends self.old.words.rest.now ⊎ (first_word self.old.words.rest.now ≢ text.now)) }
+        ensures refused { IfErr result (λ _. Ends self.old.words.rest.now
+            ⊎ (first_word self.old.words.rest.now ≢ text.now)) }
         ensures rest { self.new.words.rest.now ≡ after_word self.old.words.rest.now }
     {
         let word = self.expect(expected)?;
