@@ -1,1 +1,5 @@
+pub mod FirstWords
+pub mod Left
 pub mod Numbered
+pub mod Refusals
+pub mod Texts

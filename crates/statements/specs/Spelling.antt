@@ -163,6 +163,10 @@ IsMeaning name within meant text =
     IsWord name (word 0 text) × (word 1 text ≡ codes "in") × IsWord within (word 2 text)
     × (word 3 text ≡ codes "is") × IsWord meant (word 4 text)
 
+-- `NAME`, or `NAME over MODEL`
+abbrev pub IsModel : Word → Option Word → List ℕ → Type 0
+IsModel name below text = IsWord name (word 0 text) × MayGoOn (codes "over") below (after_word text)
+
 -- a question from that module, of which nothing more is told
 abbrev pub plain_asking : Word → Asking
 plain_asking at = record { «module» = at; mode = mode.Other; shadow = shadow.Other; expected = None }
@@ -205,7 +209,7 @@ Spells verb text (statement.Prelude at within) =
 Spells verb text (statement.Path path asking) =
     (verb ≡ codes "path") × IsWord path (word 0 text) × MayAsk asking (after_word text)
 Spells verb text (statement.Model name below) =
-    (verb ≡ codes "model") × IsWord name (word 0 text) × MayGoOn (codes "over") below (after_word text)
+    (verb ≡ codes "model") × IsModel name below text
 
 -- what is left after these words; one that may be missing counts
 abbrev pub after_statement : Statement → List ℕ → List ℕ
@@ -230,6 +234,10 @@ Spelt line s = Spells (word 0 line) (after_word line) s × Ends (after_statement
 -- the statement of a line and its first word, or none where it has no word
 abbrev pub IsRead : List ℕ → Option (Word × Statement) → Type 0
 IsRead line o = MatchOption o (Ends line) (λ p. IsWord p.0 (word 0 line) × Spelt line p.1)
+
+-- a line that some statement is spelt by, or that has no word
+abbrev pub IsReadable : List ℕ → Type 0
+IsReadable line = (o : Option (Word × Statement)) × IsRead line o
 
 -- whether it may stand below a model
 abbrev pub stands_below_models : Statement → Bool

@@ -1,9 +1,10 @@
 // Who asks a path, and what is asked beside it.
 ghost use Rattle.source_text.specs.Words.{first_word, after_word};
-ghost use Rattle.std.specs.Prelude.{◌≡◌, IfOk};
+ghost use Rattle.std.specs.Prelude.{◌≡◌, Option, IfOk, IfErr};
 ghost use Rattle.std.specs.Result.{result_ok};
 ghost use Rattle.statements.specs.Clauses.{asking_of, with_option};
 ghost use Rattle.statements.specs.Spelling.{MayBeOption, MayAsk, after_asking};
+ghost use Rattle.statements.specs.declared.asking.Asking.{Asking};
 
 use crate::words::StatementWords;
 use hir_def::ModuleId;
@@ -89,6 +90,7 @@ fn with_next_option<'a>(
     words: &mut StatementWords<'a>,
 ) -> Result<Asking<'a>, Complaint>
     ensures option { IfOk result (λ a. MayBeOption (first_word words.old.words.rest.now) × (a ≡ with_option asking.entry (first_word words.old.words.rest.now))) }
+    ensures refused { IfErr result (λ _. ¬ (MayBeOption (first_word words.old.words.rest.now))) }
     ensures rest { words.new.words.rest.now ≡ after_word words.old.words.rest.now }
 {
     match words.next_word() {
@@ -102,6 +104,7 @@ pub(crate) fn read_asking<'a>(
     words: &mut StatementWords<'a>,
 ) -> Result<Option<Asking<'a>>, Complaint>
     ensures asking { IfOk result (λ a. MayAsk a words.old.words.rest.now) }
+    ensures refused { IfErr result (λ _. (a : Option Asking) → ¬ (MayAsk a words.old.words.rest.now)) }
     ensures rest { IfOk result (λ a. words.new.words.rest.now ≡ after_asking a words.old.words.rest.now) }
 {
     let Some(from) = words.next_word() else {

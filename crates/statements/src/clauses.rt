@@ -1,10 +1,15 @@
 // The parts of statements: editions, visibilities, where an item stands, shapes and the styles of macros.
 ghost use Rattle.hir_def.specs.Editions.{edition_text};
 ghost use Rattle.source_text.specs.Words.{first_word, after_word};
-ghost use Rattle.std.specs.Prelude.{◌≡◌, ◌++◌, IfOk, codes};
+ghost use Rattle.std.specs.Prelude.{◌≡◌, ◌≢◌, ◌++◌, ℕ, List, IfOk, IfErr, codes};
 ghost use Rattle.std.specs.Result.{result_ok};
 ghost use Rattle.statements.specs.Clauses.{styles_of, with_style, shape_of, Says};
 ghost use Rattle.statements.specs.Spelling.{after_module, after_visibility, MaySay, IsPlace, IsSite, after_site, MayBeStyle, AreStyles, after_words};
+ghost use Rattle.hir_def.specs.declared.edition.Edition.{Edition};
+ghost use Rattle.item_scope.specs.declared.index_data.CallStyles.{CallStyles};
+ghost use Rattle.source_text.specs.declared.words.Word.{Word};
+ghost use Rattle.statements.specs.declared.clauses.RawVisibility.{RawVisibility};
+ghost use Rattle.statements.specs.declared.clauses.Site.{Site};
 
 use crate::kinds::Shape;
 use crate::names::text_or_nothing;
@@ -45,7 +50,8 @@ pub(crate) const WITHIN: &str = "`in` and the module that the item stands in";
 pub(crate) const MODULE: &str = "the module that the item stands in";
 
 pub(crate) fn read_edition(word: Word) -> Result<Edition, Complaint>
-    ensures { IfOk result (λ e. word.entry.text.now ≡ edition_text e) }
+    ensures edition { IfOk result (λ e. word.entry.text.now ≡ edition_text e) }
+    ensures refused { IfErr result (λ _. (e : Edition) → word.entry.text.now ≢ edition_text e) }
 {
     match text_or_nothing(word).parse::<Edition>() {
         Ok(edition) => Ok(edition),
@@ -55,7 +61,8 @@ pub(crate) fn read_edition(word: Word) -> Result<Edition, Complaint>
 
 // `MODULE)`, after `pub(in`.
 fn closed<'a>(word: Word<'a>) -> Result<Word<'a>, Complaint>
-    ensures { IfOk result (λ w. word.entry.text.now ≡ w.text.now ++ codes ")") }
+    ensures module { IfOk result (λ w. word.entry.text.now ≡ w.text.now ++ codes ")") }
+    ensures refused { IfErr result (λ _. (text : List ℕ) → word.entry.text.now ≢ text ++ codes ")") }
 {
     match word.text {
         [text @ .., b')'] => Ok(Word {
@@ -76,6 +83,8 @@ pub(crate) fn visibility_of<'a>(
     words: &mut StatementWords<'a>,
 ) -> Result<RawVisibility<'a>, Complaint>
     ensures says { IfOk result (Says word.entry.text.now (first_word words.old.words.rest.now)) }
+    ensures refused { IfErr result (λ _. (vis : RawVisibility) →
+        ¬ (Says word.entry.text.now (first_word words.old.words.rest.now) vis)) }
     ensures rest { IfOk result (λ vis. words.new.words.rest.now ≡ after_module vis words.old.words.rest.now) }
 {
     if word.is("pub") {
@@ -97,6 +106,7 @@ pub(crate) fn read_optional<'a>(
     words: &mut StatementWords<'a>,
 ) -> Result<RawVisibility<'a>, Complaint>
     ensures says { IfOk result (λ vis. MaySay vis words.old.words.rest.now) }
+    ensures refused { IfErr result (λ _. (vis : RawVisibility) → ¬ (MaySay vis words.old.words.rest.now)) }
     ensures rest { IfOk result (λ vis. words.new.words.rest.now ≡ after_visibility vis words.old.words.rest.now) }
 {
     match words.next_word() {
@@ -112,6 +122,8 @@ pub(crate) fn site_of<'a>(
 ) -> Result<Site<'a>, Complaint>
     ensures name { IfOk result (λ s. s.name.text.now ≡ name.entry.text.now) }
     ensures place { IfOk result (λ s. IsPlace s.«module» s.vis words.old.words.rest.now) }
+    ensures refused { IfErr result (λ _. (at : Word) (vis : RawVisibility) →
+        ¬ (IsPlace at vis words.old.words.rest.now)) }
     ensures rest { IfOk result (λ s. words.new.words.rest.now ≡ after_visibility s.vis (after_words 2 words.old.words.rest.now)) }
 {
     words.keyword("in", WITHIN)?;
@@ -123,6 +135,7 @@ pub(crate) fn site_of<'a>(
 
 pub(crate) fn read_site<'a>(words: &mut StatementWords<'a>) -> Result<Site<'a>, Complaint>
     ensures site { IfOk result (λ s. IsSite s words.old.words.rest.now) }
+    ensures refused { IfErr result (λ _. (s : Site) → ¬ (IsSite s words.old.words.rest.now)) }
     ensures rest { IfOk result (λ s. words.new.words.rest.now ≡ after_site s words.old.words.rest.now) }
 {
     let name = words.expect("the item's name")?;
@@ -175,6 +188,7 @@ fn with_style(styles: CallStyles, word: Word) -> Result<CallStyles, Complaint>
 #[tactic(auto, unfolding(crate::specs::Clauses::with_style, crate::specs::Spelling::MayBeStyle))]
 fn with_next_style(styles: CallStyles, words: &mut StatementWords) -> Result<CallStyles, Complaint>
     ensures style { IfOk result (λ s. MayBeStyle (first_word words.old.words.rest.now) × (s ≡ with_style styles (first_word words.old.words.rest.now))) }
+    ensures refused { IfErr result (λ _. ¬ (MayBeStyle (first_word words.old.words.rest.now))) }
     ensures rest { words.new.words.rest.now ≡ after_word words.old.words.rest.now }
 {
     match words.next_word() {
@@ -187,6 +201,7 @@ fn with_next_style(styles: CallStyles, words: &mut StatementWords) -> Result<Cal
 #[tactic(auto, unfolding(crate::specs::Spelling::AreStyles))]
 pub(crate) fn read_styles(words: &mut StatementWords) -> Result<CallStyles, Complaint>
     ensures styles { IfOk result (λ s. AreStyles s words.old.words.rest.now) }
+    ensures refused { IfErr result (λ _. (s : CallStyles) → ¬ (AreStyles s words.old.words.rest.now)) }
     ensures rest { IfOk result (λ _. words.new.words.rest.now ≡ after_words 3 words.old.words.rest.now) }
 {
     let none = CallStyles {

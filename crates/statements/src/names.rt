@@ -36,7 +36,7 @@ pub fn text_of<'a>(word: Word<'a>) -> Result<&'a str, Complaint>
 
 /// The word as text, and nothing where its bytes are none.
 pub(crate) fn text_or_nothing<'a>(word: Word<'a>) -> &'a str
-    ensures { (result.now ≡ word.entry.text.now) ⊎ (result.now ≡ []) }
+    ensures { (result.now ≡ word.entry.text.now) ⊎ ((result.now ≡ []) × ¬ (IsUtf8 word.entry.text.now)) }
 {
     std::str::from_utf8(word.text).unwrap_or("")
 }

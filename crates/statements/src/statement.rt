@@ -1,7 +1,10 @@
 // One statement of a firmware file, as its words say it.
-ghost use Rattle.std.specs.Prelude.{◌≡◌, IfOk, codes};
+ghost use Rattle.std.specs.Prelude.{◌≡◌, ◌≢◌, ℕ, List, Option, IfOk, IfErr, codes};
 ghost use Rattle.source_text.specs.Words.{first_word, after_word};
-ghost use Rattle.statements.specs.Spelling.{word, after_words, IsWord, IsImportName, after_import_name, IsImport, after_import, MayGoOn, after_going_on, IsLegacy, IsMeaning, Spells, after_statement, IsRead, stands_below_models};
+ghost use Rattle.statements.specs.Spelling.{word, after_words, IsWord, IsImportName, after_import_name, IsImport, after_import, MayGoOn, after_going_on, IsLegacy, IsMeaning, IsModel, Spells, after_statement, IsRead, IsReadable, stands_below_models};
+ghost use Rattle.source_text.specs.declared.words.Word.{Word};
+ghost use Rattle.statements.specs.declared.clauses.Site.{Site};
+ghost use Rattle.statements.specs.declared.statement.Statement.{Statement};
 
 use crate::asking::{Asking, read_asking};
 use crate::clauses::{
@@ -49,6 +52,7 @@ fn read_more<'a>(
     words: &mut StatementWords<'a>,
 ) -> Result<Option<Word<'a>>, Complaint>
     ensures more { IfOk result (λ o. MayGoOn keyword.now o words.old.words.rest.now) }
+    ensures refused { IfErr result (λ _. (o : Option Word) → ¬ (MayGoOn keyword.now o words.old.words.rest.now)) }
     ensures rest { IfOk result (λ o. words.new.words.rest.now ≡ after_going_on o words.old.words.rest.now) }
 {
     let Some(word) = words.next_word() else {
@@ -65,6 +69,8 @@ fn read_legacy<'a>(
     words: &mut StatementWords<'a>,
 ) -> Result<(Word<'a>, Word<'a>, Option<Word<'a>>), Complaint>
     ensures legacy { IfOk result (λ t. IsLegacy t.0 t.1 t.2 words.old.words.rest.now) }
+    ensures refused { IfErr result (λ _. (name at : Word) (o : Option Word) →
+        ¬ (IsLegacy name at o words.old.words.rest.now)) }
     ensures rest { IfOk result (λ t. words.new.words.rest.now ≡ after_going_on t.2 (after_words 3 words.old.words.rest.now)) }
 {
     let name = words.expect("the macro's name")?;
@@ -88,6 +94,8 @@ fn read_import_name<'a>(
 ) -> Result<Word<'a>, Complaint>
     ensures name { IfOk result (λ name. IsImportName bringing full.entry.text.now name.text.now words.old.words.rest.now) }
     ensures within { IfOk result (λ _. word 0 (after_import_name words.old.words.rest.now) ≡ codes "in") }
+    ensures refused { IfErr result (λ _. (f name : List ℕ) → IsImportName bringing f name words.old.words.rest.now
+        → word 0 (after_import_name words.old.words.rest.now) ≢ codes "in") }
     ensures rest { IfOk result (λ _. words.new.words.rest.now ≡ after_word (after_import_name words.old.words.rest.now)) }
 {
     let is_glob = matches!(bringing, Bringing::Glob);
@@ -110,6 +118,7 @@ fn read_use<'a>(
     words: &mut StatementWords<'a>,
 ) -> Result<(Word<'a>, Site<'a>), Complaint>
     ensures import { IfOk result (λ t. IsImport bringing t.0 t.1 words.old.words.rest.now) }
+    ensures refused { IfErr result (λ _. (f : Word) (s : Site) → ¬ (IsImport bringing f s words.old.words.rest.now)) }
     ensures rest { IfOk result (λ t. words.new.words.rest.now ≡ after_import t.1 words.old.words.rest.now) }
 {
     let full = words.expect("what is imported, by its full name")?;
@@ -126,6 +135,8 @@ fn read_meaning<'a>(
     words: &mut StatementWords<'a>,
 ) -> Result<(Word<'a>, Word<'a>, Word<'a>), Complaint>
     ensures meaning { IfOk result (λ t. IsMeaning t.0 t.1 t.2 words.old.words.rest.now) }
+    ensures refused { IfErr result (λ _. (name within meant : Word) →
+        ¬ (IsMeaning name within meant words.old.words.rest.now)) }
     ensures rest { IfOk result (λ _. words.new.words.rest.now ≡ after_words 5 words.old.words.rest.now) }
 {
     let name = words.expect("a name")?;
@@ -137,7 +148,9 @@ fn read_meaning<'a>(
 
 // `NAME`, or `NAME over MODEL`.
 fn read_model<'a>(words: &mut StatementWords<'a>) -> Result<(Word<'a>, Option<Word<'a>>), Complaint>
-    ensures model { IfOk result (λ t. IsWord t.0 (first_word words.old.words.rest.now) × MayGoOn (codes "over") t.1 (after_word words.old.words.rest.now)) }
+    ensures model { IfOk result (λ t. IsModel t.0 t.1 words.old.words.rest.now) }
+    ensures refused { IfErr result (λ _. (name : Word) (below : Option Word) →
+        ¬ (IsModel name below words.old.words.rest.now)) }
     ensures rest { IfOk result (λ t. words.new.words.rest.now ≡ after_going_on t.1 (after_word words.old.words.rest.now)) }
 {
     let name = words.expect("the model's name")?;
@@ -153,7 +166,8 @@ fn read_model<'a>(words: &mut StatementWords<'a>) -> Result<(Word<'a>, Option<Wo
 impl<'a> Statement<'a> {
     /// The statement of a line, if it has one, and its first word.
     pub fn of(mut words: StatementWords<'a>) -> Result<Option<(Word<'a>, Statement<'a>)>, Complaint>
-        ensures { IfOk result (IsRead words.entry.words.rest.now) }
+        ensures read { IfOk result (IsRead words.entry.words.rest.now) }
+        ensures refused { IfErr result (λ _. ¬ (IsReadable words.entry.words.rest.now)) }
     {
         let Some(verb) = words.next_word() else {
             return Ok(None);
@@ -178,6 +192,8 @@ impl<'a> Statement<'a> {
 
     fn after(verb: Word<'a>, words: &mut StatementWords<'a>) -> Result<Statement<'a>, Complaint>
         ensures spelt { IfOk result (Spells verb.entry.text.now words.old.words.rest.now) }
+        ensures refused { IfErr result (λ _. (s : Statement) →
+            ¬ (Spells verb.entry.text.now words.old.words.rest.now s)) }
         ensures rest { IfOk result (λ s. words.new.words.rest.now ≡ after_statement s words.old.words.rest.now) }
     {
         match text_or_nothing(verb) {

@@ -1,6 +1,6 @@
 // The words of a statement, and what is wrong where one is missing or one too many.
 ghost use Rattle.source_text.specs.Words.{NextWord, first_word, after_word};
-ghost use Rattle.std.specs.Prelude.{◌≡◌, IfOk};
+ghost use Rattle.std.specs.Prelude.{◌≡◌, ◌≢◌, ◌⊎◌, IfOk, IfErr};
 ghost use Rattle.std.specs.Result.{result_ok};
 ghost use Rattle.statements.specs.Spelling.{BeforeComment, Ends};
 
@@ -52,6 +52,8 @@ impl<'a> StatementWords<'a> {
     /// Passes a word that has to stand there.
     pub(crate) fn keyword(&mut self, text: &str, expected: &'static str) -> Result<(), Complaint>
         ensures word { IfOk result (λ _. first_word self.old.words.rest.now ≡ text.now) }
+        ensures refused { IfErr result (λ _. Ends self.old.words.rest.now
+            ⊎ (first_word self.old.words.rest.now ≢ text.now)) }
         ensures rest { self.new.words.rest.now ≡ after_word self.old.words.rest.now }
     {
         let word = self.expect(expected)?;
@@ -63,7 +65,8 @@ impl<'a> StatementWords<'a> {
     }
 
     pub(crate) fn expect_end(&mut self) -> Result<(), Complaint>
-        ensures { IfOk result (λ _. Ends self.old.words.rest.now) }
+        ensures ends { IfOk result (λ _. Ends self.old.words.rest.now) }
+        ensures refused { IfErr result (λ _. ¬ (Ends self.old.words.rest.now)) }
     {
         match self.next_word() {
             Some(word) => Err(Complaint::at(
