@@ -10,7 +10,7 @@ use Rattle.entries.specs.Entries.{is_nothing, nothing, of_types, or_else}
 use Rattle.entries.specs.declared.per_ns.PerNs.{PerNs}
 use Rattle.entries.specs.declared.visibility.Visibility.{Visibility}
 use Rattle.entries.specs.declared.visibility.Visibility.TheVariants.{Public}
-use Rattle.file_reader.specs.Models.{parts_seen}
+use Rattle.file_reader.specs.Models.{part_of, parts_seen}
 use Rattle.file_reader.specs.Statements.{known_of}
 use Rattle.file_reader.specs.declared.reader.Known.{Known}
 use Rattle.file_reader.specs.declared.reader.Reader.{Reader}
@@ -40,10 +40,14 @@ compared p within name k = ordering_then (ordering_then (part_cmp.it p k.0) (sli
 unfoldable pub declared_in : Declarations → Part → List ℕ → List ℕ → PerNs
 declared_in d p within name = unwrap_or (get_by (compared p within name) d) nothing
 
--- The part declares the entries with that full name: in each namespace it has what it had, and else what comes. Nothing else is declared.
-unfoldable pub DeclaresAs : Part → Declarations → Bor (List ℕ) → Bor (List ℕ) → PerNs → Declarations → Type 0
-DeclaresAs p old within name e new =
+-- At a full name in a part the entries come in: each namespace has there what it had, and else what comes. Nothing else changes.
+unfoldable pub Gains : Declarations → Part → Bor (List ℕ) → Bor (List ℕ) → PerNs → Declarations → Type 0
+Gains old p within name e new =
     Updates (λ x y. compared x.0 x.1.now x.2.now y) old new (p, within, name) (Some (or_else (declared_in old p within.now name.now) e))
+
+-- the part in which the next statement stands declares the entries with that full name
+abbrev pub DeclaresAs : Reader → Bor (List ℕ) → Bor (List ℕ) → PerNs → Reader → Type 0
+DeclaresAs old within name e new = Gains old.declared (part_of (vec_items old.firmware.models)) within name e new.declared
 
 -- In each namespace, the first of the parts that declares something with a full name has it.
 unfoldable pub declared_in_all : Declarations → List Part → List ℕ → List ℕ → PerNs
@@ -59,6 +63,10 @@ pub record Above : Type 0 where
 abbrev pub declared_above : Reader → Above
 declared_above r = record { modules = r.by_name; declared = r.declared; models = vec_items r.firmware.models }
 
+-- what is declared above with a full name and a kind, as far as the next statement sees it
+abbrev pub entries_above : Above → List ℕ → List ℕ → PerNs
+entries_above a within name = declared_in_all a.declared (parts_seen a.models) within name
+
 -- a module of a full name with no `::`, which is a crate's root
 abbrev pub of_module : Known → PerNs
 of_module k = of_types (def.ModuleId k.id) Public None
@@ -70,7 +78,7 @@ unless_nothing e = if is_nothing e then None else Some e
 -- What a full name means. With no `::` it is a crate that is declared above. Else it is what the base and the models of the last one's pile declare with it.
 unfoldable pub meaning : Above → List ℕ → Option PerNs
 meaning a full =
-    option_map_or (λ k. unless_nothing (declared_in_all a.declared (parts_seen a.models) (take k full) (drop (k + length colons) full))) (last_colons full)
+    option_map_or (λ k. unless_nothing (entries_above a (take k full) (drop (k + length colons) full))) (last_colons full)
     (option_map of_module (known_of a.modules full))
 
 -- the macro of that full name

@@ -12,7 +12,7 @@ use Rattle.entries.specs.declared.visibility.Visibility.TheVariants.{Public}
 use Rattle.file_reader.specs.declared.reader.Known.{Known}
 use Rattle.file_reader.specs.declared.reader.Reader.{Reader}
 use Rattle.file_reader.specs.FullNames.{DeclaresAs, declared_above, meaning, macro_meant, enum_meant}
-use Rattle.file_reader.specs.Models.{model_by_name, part_of, pile_of}
+use Rattle.file_reader.specs.Models.{model_by_name, pile_of}
 use Rattle.file_reader.specs.Statements.{known_of, Tells, deliveries, imports_of}
 use Rattle.file_reader.specs.Told.{told_by, item_told, rows}
 use Rattle.firmware.specs.Models.{reached}
@@ -104,7 +104,7 @@ AddsDefinition old k s new =
     (at : Known) × (v : Visibility)
     × (known_of old.by_name s.«module».text.now ≡ Some at)
     × Tells old.by_name at s.vis v
-    × DeclaresAs (part_of (vec_items old.firmware.models)) old.declared s.«module».text s.name.text (entries_of k (length (defined_as old.firmware.definitions k)) v) new.declared
+    × DeclaresAs old s.«module».text s.name.text (entries_of k (length (defined_as old.firmware.definitions k)) v) new
     × (told_by new ≡ record (told_by old) {
       names = new.firmware.list;
       declared = new.declared;
@@ -171,7 +171,7 @@ AddsInner old w raw new =
     × Tells old.by_name parent raw vis
     × (row ≡ record { krate = parent.krate; block = parent.block; parent = Some parent.id })
     × Declares old w row None id new
-    × DeclaresAs (part_of (vec_items old.firmware.models)) old.declared outer.text name.text (of_types (def.ModuleId id) vis None) new.declared
+    × DeclaresAs old outer.text name.text (of_types (def.ModuleId id) vis None) new
     × (told_by new ≡ record (told_by old) {
       names = new.firmware.list;
       above = new.by_name;
@@ -237,7 +237,7 @@ AddsLegacy old name m new =
     × IsModule old.by_name m.text.now at
     × IsNumber new.firmware.list name.text.now n
     × (d.0 ≡ length (vec_items old.firmware.definitions.macros))
-    × DeclaresAs (part_of (vec_items old.firmware.models)) old.declared m.text name.text (of_macros d Public None) new.declared
+    × DeclaresAs old m.text name.text (of_macros d Public None) new
     × (told_by new ≡ record (told_by old) {
       names = new.firmware.list;
       declared = new.declared;
@@ -287,7 +287,7 @@ AddsVariant old w shape new =
     × IsNumber new.firmware.list name.text.now n
     × (enum_meant (declared_above old) outer.text.now ≡ Some (of, vis))
     × (v ≡ record { variant = record { 0 = length (vec_items old.firmware.definitions.others) }; has_constructor = has_constructor shape })
-    × DeclaresAs (part_of (vec_items old.firmware.models)) old.declared outer.text name.text (entries_of (kind.Variant shape) v.variant.0 vis) new.declared
+    × DeclaresAs old outer.text name.text (entries_of (kind.Variant shape) v.variant.0 vis) new
     × (told_by new ≡ record (told_by old) {
       names = new.firmware.list;
       declared = new.declared;

@@ -1,8 +1,7 @@
 // Full names: the modules that a file declares, and what it declares with a kind, part by part.
-ghost use Rattle.std.specs.Prelude.{◌≡◌, OnOk, vec_items};
+ghost use Rattle.std.specs.Prelude.{◌≡◌, OnOk};
 ghost use Rattle.std.specs.Result.{result_ok};
-ghost use Rattle.file_reader.specs.FullNames.{DeclaresAs, declared_above, declared_in, declared_in_all, meaning};
-ghost use Rattle.file_reader.specs.Models.{part_of, parts_seen};
+ghost use Rattle.file_reader.specs.FullNames.{DeclaresAs, declared_above, declared_in, declared_in_all, entries_above, meaning};
 ghost use Rattle.file_reader.specs.Statements.{known_of};
 ghost use Rattle.file_reader.specs.Told.{told_by};
 ghost use Rattle.firmware.specs.Piles.{parts_of};
@@ -43,7 +42,7 @@ impl<'a> Reader<'a> {
     }
 
     // What a part declares first with a full name holds it there, in each namespace.
-    #[tactic(auto, unfolding(crate::specs::FullNames::DeclaresAs))]
+    #[tactic(auto, unfolding(crate::specs::FullNames::Gains))]
     pub(crate) fn declare(
         &mut self,
         within: &'a [u8],
@@ -51,7 +50,7 @@ impl<'a> Reader<'a> {
         entries: PerNs,
     ) -> Result<(), Failure<Trouble>>
         ensures told { told_by self.new ≡ record (told_by self.old) { declared = self.new.declared } }
-        ensures declared { OnOk result (DeclaresAs (part_of (vec_items self.old.firmware.models)) self.old.declared within.entry name.entry entries self.new.declared) }
+        ensures declared { OnOk result (DeclaresAs self.old within.entry name.entry entries self.new) }
     {
         let part = self.part();
         let known = self.declared_in(part, within, name).or(entries);
@@ -86,7 +85,7 @@ impl<'a> Reader<'a> {
     // What the base declares with a full name, and the models of the last one's pile.
     #[tactic(auto, unfolding(crate::specs::FullNames::declared_in_all))]
     fn declared_in_pile(&self, within: &'a [u8], name: &'a [u8]) -> PerNs
-        ensures { result ≡ declared_in_all self.now.declared (parts_seen (vec_items self.now.firmware.models)) within.now name.now }
+        ensures { result ≡ entries_above (declared_above self.now) within.now name.now }
     {
         match self.firmware.models.last() {
             Some(model) => self.declared_in_parts(model.pile, within, name),

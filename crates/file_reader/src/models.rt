@@ -26,7 +26,8 @@ impl<'a> Reader<'a> {
 
     // The pile of a model over the one of that name.
     fn pile_over(&self, word: Word<'a>, model: usize) -> Result<Pile, Complaint>
-        ensures { result_ok result ≡ pile_over self.now.model_numbers (vec_items self.now.firmware.models) word.entry.text.now model }
+        ensures { result_ok result
+            ≡ pile_over self.now.model_numbers (vec_items self.now.firmware.models) word.entry.text.now model }
     {
         let below = match self.model_numbers.get(word.text) {
             Some(number) => self.firmware.models.get(*number),
