@@ -1,6 +1,9 @@
 pub mod Adding
 pub mod Definitions
+pub mod FullNames
+pub mod Models
 pub mod Nothing
 pub mod Reading
 pub mod Statements
 pub mod Tables
+pub mod Told

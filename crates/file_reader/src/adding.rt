@@ -1,7 +1,8 @@
 // What statements of several kinds add to a file: names, items, deliveries and paths.
 ghost use Rattle.std.specs.Prelude.{◌≡◌, ◌++◌, ◌∷◌, [], IfOk, OnOk};
 ghost use Rattle.file_reader.specs.Statements.{Names, Tells, deliveries};
-ghost use Rattle.file_reader.specs.Tables.{told_by, IsNumber, Asks, AddsPath, AddsItem};
+ghost use Rattle.file_reader.specs.Tables.{IsNumber, Asks, AddsPath, AddsItem};
+ghost use Rattle.file_reader.specs.Told.{told_by};
 
 use crate::reader::{Known, Reader};
 use entries::per_ns::PerNs;

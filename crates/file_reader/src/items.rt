@@ -1,9 +1,12 @@
 // What the statements of items, macros, imports and preludes add to a file's tables and deliveries.
 ghost use Rattle.std.specs.Prelude.{◌≡◌, ◌++◌, ◌∷◌, [], IfOk, OnOk, length, vec_items};
+ghost use Rattle.std.specs.Result.{result_ok};
 ghost use Rattle.file_reader.specs.Definitions.{Grows, Keeps, items_of};
 ghost use Rattle.firmware.specs.declared.definition.Standing.TheVariants.{Place};
+ghost use Rattle.file_reader.specs.FullNames.{declared_above, enum_in, enum_meant, macro_meant};
 ghost use Rattle.file_reader.specs.Statements.{imports_of};
-ghost use Rattle.file_reader.specs.Tables.{rows, defined_as, Defines, AddsDefinition, AddsExternPrelude, AddsImport, AddsLegacy, AddsLegacyOf, AddsMacroUse, AddsPrelude, AddsVariant, IsCrate, IsMap};
+ghost use Rattle.file_reader.specs.Tables.{Brings, defined_as, Defines, AddsDefinition, AddsExternPrelude, AddsImport, AddsLegacy, AddsLegacyOf, AddsMacroUse, AddsPrelude, AddsVariant, IsCrate, IsMap};
+ghost use Rattle.file_reader.specs.Told.{rows};
 
 use crate::reader::Reader;
 use entries::per_ns::PerNs;
@@ -81,8 +84,21 @@ fn of_imports<'d, 'a>(
     }
 }
 
+// The enum among the entries of a name, and who sees it.
+fn enum_in(entries: PerNs) -> Option<(EnumId, Visibility)>
+    ensures { result ≡ enum_in entries }
+{
+    let item = entries.types?;
+    match item.def {
+        ModuleDefId::AdtId(AdtId::EnumId(id)) => Some((id, item.vis)),
+        _ => None,
+    }
+}
+
 impl<'a> Reader<'a> {
-    fn macro_of(&self, word: Word<'a>) -> Result<MacroId, Complaint> {
+    fn macro_of(&self, word: Word<'a>) -> Result<MacroId, Complaint>
+        ensures { result_ok result ≡ macro_meant (declared_above self.now) word.entry.text.now }
+    {
         match self.declared_as(word)?.macros {
             Some(item) => Ok(item.def),
             None => Err(Complaint::at(
@@ -93,15 +109,14 @@ impl<'a> Reader<'a> {
         }
     }
 
-    fn enum_of(&self, word: Word<'a>) -> Result<(EnumId, Visibility), Complaint> {
-        const ENUM: &str = "the full name of an enum declared above";
-        match self.declared_as(word)?.types {
-            Some(item) => match item.def {
-                ModuleDefId::AdtId(AdtId::EnumId(id)) => Ok((id, item.vis)),
-                _ => Err(Complaint::at(word, "this is no enum", ENUM)),
-            },
-            None => Err(Complaint::at(word, "this is no enum", ENUM)),
-        }
+    fn enum_of(&self, word: Word<'a>) -> Result<(EnumId, Visibility), Complaint>
+        ensures { result_ok result ≡ enum_meant (declared_above self.now) word.entry.text.now }
+    {
+        enum_in(self.declared_as(word)?).ok_or(Complaint::at(
+            word,
+            "this is no enum",
+            "the full name of an enum declared above",
+        ))
     }
 
     fn crate_of(&self, word: Word<'a>) -> Result<(CrateId, ModuleId), Complaint>
@@ -230,7 +245,7 @@ impl<'a> Reader<'a> {
         module: Word<'a>,
         meant: Word<'a>,
     ) -> Result<(), Failure<Trouble>>
-        ensures { OnOk result (AddsLegacyOf self.old name.entry «module».entry self.new) }
+        ensures { OnOk result (AddsLegacyOf self.old name.entry «module».entry meant.entry self.new) }
     {
         let at = self.known(module)?.id;
         let (_, number) = self.list_name(name)?;
@@ -244,7 +259,9 @@ impl<'a> Reader<'a> {
     }
 
     // What an import of that kind brings by a full name.
-    fn imported(&self, bringing: Bringing, full: Word<'a>) -> Result<PerNs, Complaint> {
+    fn imported(&self, bringing: Bringing, full: Word<'a>) -> Result<PerNs, Complaint>
+        ensures { IfOk result (Brings self.now bringing full.entry.text.now) }
+    {
         match bringing {
             Bringing::ExternCrate => {
                 let (_, root) = self.crate_of(full)?;
@@ -262,7 +279,7 @@ impl<'a> Reader<'a> {
         full: Word<'a>,
         site: Site<'a>,
     ) -> Result<(), Failure<Trouble>>
-        ensures { OnOk result (AddsImport self.old bringing site.entry self.new) }
+        ensures { OnOk result (AddsImport self.old bringing full.entry site.entry self.new) }
     {
         let at = self.known(site.module)?;
         let vis = self.visibility(at, site.vis)?;
@@ -310,7 +327,7 @@ impl<'a> Reader<'a> {
         map: Word<'a>,
         meant: Word<'a>,
     ) -> Result<(), Failure<Trouble>>
-        ensures { OnOk result (AddsMacroUse self.old name.entry map.entry self.new) }
+        ensures { OnOk result (AddsMacroUse self.old name.entry map.entry meant.entry self.new) }
     {
         let (_, number) = self.list_name(name)?;
         let map = self.map_of(map)?;

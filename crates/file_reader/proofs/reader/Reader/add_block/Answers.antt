@@ -2,7 +2,7 @@ use Rattle.std.proofs.Common.{rules, refl, sym, subst, ◌≡◌, List, [], ◌�
 use Rattle.std.specs.Borrow.{Bor}
 use Rattle.std.specs.BTreeMap.{BTreeMap}
 use Rattle.std.specs.Prelude.{ℕ}
-use Rattle.file_reader.specs.Tables.{Told, told_by}
+use Rattle.file_reader.specs.Told.{Told, told_by}
 use Rattle.file_reader.specs.declared.reader.Known.{Known}
 use Rattle.firmware.specs.declared.definitions.Definitions.{Definitions}
 use Rattle.nameres.specs.declared.tree_rows.BlockRow.{BlockRow}
