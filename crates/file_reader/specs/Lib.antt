@@ -4,6 +4,7 @@ pub mod FullNames
 pub mod Models
 pub mod Nothing
 pub mod Reading
+pub mod Refusals
 pub mod Statements
 pub mod Tables
 pub mod Told

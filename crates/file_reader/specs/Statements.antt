@@ -1,5 +1,5 @@
 -- What the statements of visibilities and imports tell.
-use Rattle.std.specs.Prelude.{◌≡◌, ℕ, ◌⊎◌, List, ◌++◌, map, codes, decimal, Option, Some, vec_items}
+use Rattle.std.specs.Prelude.{◌≡◌, ℕ, ◌⊎◌, ◌<◌, ◌^◌, List, ◌++◌, map, codes, decimal, Option, Some, vec_items}
 use Rattle.std.specs.Borrow.{Bor}
 use Rattle.std.specs.BTreeMap.{BTreeMap, get_by}
 use Rattle.std.specs.Cmp.Lexicographic.{slice_cmp}
@@ -25,9 +25,9 @@ use Rattle.statements.specs.declared.kinds.Bringing.TheVariants as bringing
 abbrev pub known_of : BTreeMap (Bor (List ℕ)) Known → List ℕ → Option Known
 known_of above w = get_by (λ k. slice_cmp nat_cmp w k.now) above
 
--- a module by `#` and its number, or by a full name that is declared above
+-- a module by `#` and its number of 32 bits, or by a full name that is declared above
 abbrev pub Names : BTreeMap (Bor (List ℕ)) Known → List ℕ → ModuleId → Type 0
-Names above w m = (w ≡ codes "#" ++ decimal m.0) ⊎ (option_map (λ k. k.id) (known_of above w) ≡ Some m)
+Names above w m = ((m.0 < 2 ^ 32) × (w ≡ codes "#" ++ decimal m.0)) ⊎ (option_map (λ k. k.id) (known_of above w) ≡ Some m)
 
 abbrev IsInside : (ModuleId → Type 0) → Visibility → Type 0
 IsInside P (vis.Module m Explicit) = P m

@@ -4,6 +4,7 @@ use Rattle.std.specs.Borrow.{Bor}
 use Rattle.std.specs.BTreeMap.{BTreeMap, Updates}
 use Rattle.std.specs.Cmp.Lexicographic.{slice_cmp}
 use Rattle.std.specs.Option.{option_map}
+use Rattle.std.specs.Str.{IsUtf8}
 use Rattle.std.specs.Ordering.{nat_cmp}
 use Rattle.entries.specs.Entries.{of_macros, of_types}
 use Rattle.entries.specs.declared.per_ns.PerNs.{PerNs}
@@ -13,6 +14,7 @@ use Rattle.file_reader.specs.declared.reader.Known.{Known}
 use Rattle.file_reader.specs.declared.reader.Reader.{Reader}
 use Rattle.file_reader.specs.FullNames.{DeclaresAs, declared_above, meaning, macro_meant, enum_meant}
 use Rattle.file_reader.specs.Models.{model_by_name, pile_of}
+use Rattle.file_reader.specs.Refusals.{IsListable, IsRowNumber}
 use Rattle.file_reader.specs.Statements.{known_of, Tells, deliveries, imports_of}
 use Rattle.file_reader.specs.Told.{told_by, item_told, rows}
 use Rattle.firmware.specs.Models.{reached}
@@ -59,11 +61,17 @@ AddsPath old path asking new =
     (q : Option Question) × Asks old.by_name asking q
     × (told_by new ≡ record (told_by old) { paths = vec_items old.firmware.paths ++ path ∷ []; questions = vec_items old.firmware.questions ++ q ∷ [] })
 
--- an item of a module that is declared above, with the visibility that is told there
+-- An item may stand in a module that is declared above, with the visibility that is told there, where its name may be listed.
+abbrev pub MayStand : BTreeMap (Bor (List ℕ)) Known → Site → Known → Visibility → Type 0
+MayStand above s at v =
+    IsListable s.name.text.now × IsUtf8 s.«module».text.now
+    × (known_of above s.«module».text.now ≡ Some at)
+    × Tells above at s.vis v
+
+-- an item of a module, and nothing but it
 abbrev pub AddsItem : Reader → Site → Known → Visibility → Reader → Type 0
 AddsItem old s at v new =
-    (known_of old.by_name s.«module».text.now ≡ Some at)
-    × Tells old.by_name at s.vis v
+    MayStand old.by_name s at v
     × (told_by new ≡ record (told_by old) { names = new.firmware.list; items = map item_told (vec_items old.firmware.items) ++ (s.name.text.now, (s.«module».text.now, v)) ∷ [] })
 
 -- the definitions that are counted with those of that kind
@@ -92,6 +100,10 @@ styles_of kind.Trait = []
 styles_of kind.TypeAlias = []
 styles_of (kind.Variant s) = []
 
+-- A definition may come in where its name and what is named around it are text, and one more is counted with 32 bits.
+abbrev pub MayDefine : Definitions → ItemKind → Word → Word → Type 0
+MayDefine d k name within = IsUtf8 name.text.now × IsUtf8 within.text.now × IsRowNumber (length (defined_as d k))
+
 -- a definition is numbered by its turn among those of its kind
 abbrev pub Defines : Reader → ItemKind → ℕ → Reader → Type 0
 Defines old k n new =
@@ -102,6 +114,8 @@ Defines old k n new =
 abbrev pub AddsDefinition : Reader → ItemKind → Site → Reader → Type 0
 AddsDefinition old k s new =
     (at : Known) × (v : Visibility)
+    × IsListable s.name.text.now
+    × MayDefine old.firmware.definitions k s.name s.«module»
     × (known_of old.by_name s.«module».text.now ≡ Some at)
     × Tells old.by_name at s.vis v
     × DeclaresAs old s.«module».text s.name.text (entries_of k (length (defined_as old.firmware.definitions k)) v) new
@@ -134,11 +148,16 @@ IsCrate above w c = IsMap above w (map_id.Crate c.0) × IsModule above w c.1
 abbrev pub IsNumber : List (List ℕ) → List ℕ → Name → Type 0
 IsNumber names w n = as_name (first names w 0) ≡ Some n
 
+-- A module may come in where none is declared above with its full name, which is text, and one more is counted with 32 bits.
+abbrev pub MayDeclare : Reader → Word → Type 0
+MayDeclare old w =
+    (known_of old.by_name w.text.now ≡ None) × IsUtf8 w.text.now × IsRowNumber (length (vec_items old.firmware.modules))
+
 -- A module is numbered by its turn. It is declared above from then on, by its full name, and nothing else is.
 abbrev pub Declares : Reader → Word → ModuleRow → Option DefMapId → ModuleId → Reader → Type 0
 Declares old w row root id new =
     (id.0 ≡ length (vec_items old.firmware.modules))
-    × (known_of old.by_name w.text.now ≡ None)
+    × MayDeclare old w
     × Updates (λ a b. slice_cmp nat_cmp a.now b.now) old.by_name new.by_name w.text (Some (record { id = id; krate = row.krate; block = row.block; root_of = root }))
 
 -- a module of a row, and nothing but it
@@ -151,6 +170,7 @@ AddsModule old w row root id new =
 abbrev pub AddsCrate : Reader → Word → Edition → Reader → Type 0
 AddsCrate old w edition new =
     (root : ModuleId) × (row : ModuleRow) × (c : CrateId)
+    × IsListable w.text.now × IsRowNumber (length (vec_items old.firmware.crates))
     × (c.0 ≡ length (vec_items old.firmware.crates))
     × (row ≡ record { krate = c; block = None; parent = None })
     × Declares old w row (Some (map_id.Crate c)) root new
@@ -167,6 +187,7 @@ abbrev pub AddsInner : Reader → Word → RawVisibility → Reader → Type 0
 AddsInner old w raw new =
     (outer : Word) × (name : Word) × (parent : Known) × (vis : Visibility) × (id : ModuleId) × (row : ModuleRow)
     × IsSplit w.text.now outer name
+    × IsListable name.text.now × IsUtf8 outer.text.now
     × (known_of old.by_name outer.text.now ≡ Some parent)
     × Tells old.by_name parent raw vis
     × (row ≡ record { krate = parent.krate; block = parent.block; parent = Some parent.id })
@@ -186,6 +207,7 @@ abbrev pub AddsBlock : Reader → Word → Reader → Type 0
 AddsBlock old w new =
     (outer : Word) × (name : Word) × (around : Known) × (root : ModuleId) × (row : ModuleRow) × (b : BlockId)
     × IsSplit w.text.now outer name
+    × IsListable name.text.now × IsUtf8 outer.text.now × IsRowNumber (length (vec_items old.firmware.blocks))
     × (known_of old.by_name outer.text.now ≡ Some around)
     × (b.0 ≡ length (vec_items old.firmware.blocks))
     × (row ≡ record { krate = around.krate; block = Some b; parent = None })
@@ -202,6 +224,7 @@ AddsBlock old w new =
 abbrev pub AddsExternPrelude : Reader → Word → Word → Word → Reader → Type 0
 AddsExternPrelude old name krate meant new =
     (n : Name) × (of : CrateId × ModuleId) × (to : CrateId × ModuleId)
+    × IsListable name.text.now
     × IsNumber new.firmware.list name.text.now n
     × IsCrate old.by_name krate.text.now of
     × IsCrate old.by_name meant.text.now to
@@ -214,6 +237,7 @@ AddsExternPrelude old name krate meant new =
 abbrev pub AddsMacroUse : Reader → Word → Word → Word → Reader → Type 0
 AddsMacroUse old name of meant new =
     (n : Name) × (m : DefMapId) × (d : MacroId)
+    × IsListable name.text.now
     × IsNumber new.firmware.list name.text.now n
     × IsMap old.by_name of.text.now m
     × (macro_meant (declared_above old) meant.text.now ≡ Some d)
@@ -235,6 +259,7 @@ abbrev pub AddsLegacy : Reader → Word → Word → Reader → Type 0
 AddsLegacy old name m new =
     (at : ModuleId) × (n : Name) × (d : MacroId)
     × IsModule old.by_name m.text.now at
+    × IsListable name.text.now × IsUtf8 m.text.now × IsRowNumber (length (vec_items old.firmware.definitions.macros))
     × IsNumber new.firmware.list name.text.now n
     × (d.0 ≡ length (vec_items old.firmware.definitions.macros))
     × DeclaresAs old m.text name.text (of_macros d Public None) new
@@ -251,6 +276,7 @@ abbrev pub AddsLegacyOf : Reader → Word → Word → Word → Reader → Type 
 AddsLegacyOf old name m meant new =
     (at : ModuleId) × (n : Name) × (d : MacroId)
     × IsModule old.by_name m.text.now at
+    × IsListable name.text.now
     × IsNumber new.firmware.list name.text.now n
     × (macro_meant (declared_above old) meant.text.now ≡ Some d)
     × (told_by new ≡ record (told_by old) {
@@ -271,6 +297,7 @@ Imports old b full s new =
     × (known_of old.by_name s.«module».text.now ≡ Some at)
     × Tells old.by_name at s.vis v
     × Brings old b full.text.now e
+    × IsListable s.name.text.now × IsUtf8 s.«module».text.now × IsRowNumber (length (imports_of old.firmware.definitions b))
     × (deliveries new ≡ deliveries old ++ (at.id, (with_visibility v e, Some (import_of b (length (imports_of old.firmware.definitions b))))) ∷ [])
 
 -- An import adds what it delivers, and a definition.
@@ -284,6 +311,7 @@ abbrev pub AddsVariant : Reader → Word → Shape → Reader → Type 0
 AddsVariant old w shape new =
     (outer : Word) × (name : Word) × (of : EnumId) × (vis : Visibility) × (n : Name) × (v : EnumVariant)
     × IsSplit w.text.now outer name
+    × IsListable name.text.now × IsUtf8 outer.text.now × IsRowNumber (length (vec_items old.firmware.definitions.others))
     × IsNumber new.firmware.list name.text.now n
     × (enum_meant (declared_above old) outer.text.now ≡ Some (of, vis))
     × (v ≡ record { variant = record { 0 = length (vec_items old.firmware.definitions.others) }; has_constructor = has_constructor shape })
@@ -299,6 +327,7 @@ AddsVariant old w shape new =
 abbrev pub AddsModel : Reader → Word → Option Word → Reader → Type 0
 AddsModel old w below new =
     (m : Model) × (m.name.now ≡ w.text.now) × (m.began ≡ reached old.firmware)
+    × IsUtf8 w.text.now
     × (model_by_name old.model_numbers w.text.now ≡ None)
     × (pile_of old.model_numbers (vec_items old.firmware.models) below (length (vec_items old.firmware.models)) ≡ Some m.pile)
     × Updates (λ a b. slice_cmp nat_cmp a.now b.now) old.model_numbers new.model_numbers w.text (Some (length (vec_items old.firmware.models)))

@@ -12,11 +12,10 @@ use entries::per_ns::PerNs;
 use entries::visibility::Visibility;
 use firmware::pile::{Part, Pile};
 use hir_def::ModuleDefId;
-use hir_def::fault::Failure;
 use source_text::words::Word;
 use statements::names::split;
+use std::alloc::AllocError;
 use troubles::complaint::Complaint;
-use troubles::trouble::Trouble;
 
 const MODULE: &str = "the full name of a module declared above, as in `raid::layout`";
 
@@ -48,7 +47,7 @@ impl<'a> Reader<'a> {
         within: &'a [u8],
         name: &'a [u8],
         entries: PerNs,
-    ) -> Result<(), Failure<Trouble>>
+    ) -> Result<(), AllocError>
         ensures told { told_by self.new ≡ record (told_by self.old) { declared = self.new.declared } }
         ensures declared { OnOk result (DeclaresAs self.old within.entry name.entry entries self.new) }
     {

@@ -2,6 +2,7 @@
 ghost use Rattle.std.specs.Prelude.{◌≡◌, OnOk, vec_items};
 ghost use Rattle.std.specs.Result.{result_ok};
 ghost use Rattle.file_reader.specs.Models.{part_of, pile_over};
+ghost use Rattle.file_reader.specs.Refusals.{NoReader, OnRefused};
 ghost use Rattle.file_reader.specs.Tables.{AddsModel};
 
 use crate::reader::Reader;
@@ -53,7 +54,8 @@ impl<'a> Reader<'a> {
         word: Word<'a>,
         below: Option<Word<'a>>,
     ) -> Result<(), Failure<Trouble>>
-        ensures { OnOk result (AddsModel self.old word.entry below.entry self.new) }
+        ensures added { OnOk result (AddsModel self.old word.entry below.entry self.new) }
+        ensures refused { OnRefused result (NoReader (AddsModel self.old word.entry below.entry)) }
     {
         if self.model_numbers.contains_key(word.text) {
             return Err(Failure::from(Complaint::at(

@@ -34,8 +34,8 @@ named t d n k q s r y e =
     subst (λ (x : Told). x ≡ record t { names = n; above = x.above; declared = x.declared; definitions = x.definitions; modules = r; delivered = y }) (sym e) refl
 
 -- src/modules.rt:82:5
-pub returns : goal.returns
-returns c =
+pub returns-clause-added : goal.returns-clause-added
+returns-clause-added c =
     then c.deliver.result c.deliver.ensures.told
     (λ told. (
       c.in_ok-outer.outer,
@@ -47,9 +47,11 @@ returns c =
       search rules,
       search rules,
       search rules,
+      search rules,
+      search rules,
       refl,
       search rules,
       search rules,
       named (told_by c.args.self.now) _ _ _ _ _ _ _
-          (joined (told_by c.args.self.now) _ _ _ _ _ _ _ _ _ _ _ _ c.list_name.ensures.told c.in_ok-id.ensures.1 c.declare.ensures.told told (cc c.types-entries.ensures)),
+          (joined (told_by c.args.self.now) _ _ _ _ _ _ _ _ _ _ _ _ c.list_name.ensures.told c.in_ok-id.ensures.added.1 c.declare.ensures.told told (cc c.types-entries.ensures)),
     ))
