@@ -1,1 +1,2 @@
 mod Lines
+mod Refused

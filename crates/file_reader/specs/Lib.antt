@@ -1,6 +1,10 @@
 pub mod Adding
 pub mod Definitions
+pub mod FullNames
+pub mod Models
 pub mod Nothing
 pub mod Reading
+pub mod Refusals
 pub mod Statements
 pub mod Tables
+pub mod Told

@@ -2,7 +2,7 @@
 use Rattle.std.specs.Prelude.{◌≡◌, [], vec_items}
 use Rattle.std.specs.BTreeMap.{IsEmpty}
 use Rattle.file_reader.specs.declared.reader.Reader.{Reader}
-use Rattle.file_reader.specs.Tables.{rows}
+use Rattle.file_reader.specs.Told.{rows}
 use Rattle.firmware.specs.declared.definitions.Definitions.{Definitions}
 use Rattle.firmware.specs.declared.file.Firmware.{Firmware}
 use Rattle.firmware.specs.declared.tables.IndexRows.{IndexRows}
@@ -42,6 +42,6 @@ pub record TellsNothing (f : Firmware) : Type 0 where
   pub questions : vec_items f.questions ≡ []
   pub models : vec_items f.models ≡ []
 
--- No module is declared above.
+-- Nothing is declared above, with a kind or without, and no model.
 abbrev pub IsNew : Reader → Type 0
-IsNew r = TellsNothing r.firmware × IsEmpty r.by_name
+IsNew r = TellsNothing r.firmware × IsEmpty r.by_name × IsEmpty r.declared × IsEmpty r.model_numbers

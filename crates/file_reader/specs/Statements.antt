@@ -1,5 +1,5 @@
 -- What the statements of visibilities and imports tell.
-use Rattle.std.specs.Prelude.{◌≡◌, ℕ, ◌⊎◌, List, [], ◌∷◌, ◌++◌, length, map, codes, decimal, Option, Some, vec_items}
+use Rattle.std.specs.Prelude.{◌≡◌, ℕ, ◌⊎◌, ◌<◌, ◌^◌, List, ◌++◌, map, codes, decimal, Option, Some, vec_items}
 use Rattle.std.specs.Borrow.{Bor}
 use Rattle.std.specs.BTreeMap.{BTreeMap, get_by}
 use Rattle.std.specs.Cmp.Lexicographic.{slice_cmp}
@@ -16,10 +16,8 @@ use Rattle.firmware.specs.declared.definitions.Definitions.{Definitions}
 use Rattle.firmware.specs.declared.file.DeliveryStatement.{DeliveryStatement}
 use Rattle.hir_def.specs.declared.ModuleId.{ModuleId}
 use Rattle.hir_def.specs.declared.import.ImportOrExternCrate.{ImportOrExternCrate}
-use Rattle.statements.specs.Kinds.{import_of, with_visibility}
 use Rattle.statements.specs.declared.clauses.RawVisibility.{RawVisibility}
 use Rattle.statements.specs.declared.clauses.RawVisibility.TheVariants as raw
-use Rattle.statements.specs.declared.clauses.Site.{Site}
 use Rattle.statements.specs.declared.kinds.Bringing.{Bringing}
 use Rattle.statements.specs.declared.kinds.Bringing.TheVariants as bringing
 
@@ -27,9 +25,9 @@ use Rattle.statements.specs.declared.kinds.Bringing.TheVariants as bringing
 abbrev pub known_of : BTreeMap (Bor (List ℕ)) Known → List ℕ → Option Known
 known_of above w = get_by (λ k. slice_cmp nat_cmp w k.now) above
 
--- a module by `#` and its number, or by a full name that is declared above
+-- a module by `#` and its number of 32 bits, or by a full name that is declared above
 abbrev pub Names : BTreeMap (Bor (List ℕ)) Known → List ℕ → ModuleId → Type 0
-Names above w m = (w ≡ codes "#" ++ decimal m.0) ⊎ (option_map (λ k. k.id) (known_of above w) ≡ Some m)
+Names above w m = ((m.0 < 2 ^ 32) × (w ≡ codes "#" ++ decimal m.0)) ⊎ (option_map (λ k. k.id) (known_of above w) ≡ Some m)
 
 abbrev IsInside : (ModuleId → Type 0) → Visibility → Type 0
 IsInside P (vis.Module m Explicit) = P m
@@ -57,12 +55,3 @@ told d = (d.delivery.receiver, (d.delivery.entries, d.delivery.import))
 -- the deliveries of the file as far as it is read
 abbrev pub deliveries : Reader → List (ModuleId × (PerNs × Option ImportOrExternCrate))
 deliveries r = map told (vec_items r.firmware.deliveries)
-
--- An import makes one more delivery, to the module where it stands. Its import is the statement's turn among those of its word, and
--- all that it brings is as visible as the statement tells.
-abbrev pub Imports : Reader → Bringing → Site → Reader → Type 0
-Imports old b s new =
-    (at : Known) × (v : Visibility) × (e : PerNs)
-    × (known_of old.by_name s.«module».text.now ≡ Some at)
-    × Tells old.by_name at s.vis v
-    × (deliveries new ≡ deliveries old ++ (at.id, (with_visibility v e, Some (import_of b (length (imports_of old.firmware.definitions b))))) ∷ [])

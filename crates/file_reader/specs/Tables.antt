@@ -4,19 +4,23 @@ use Rattle.std.specs.Borrow.{Bor}
 use Rattle.std.specs.BTreeMap.{BTreeMap, Updates}
 use Rattle.std.specs.Cmp.Lexicographic.{slice_cmp}
 use Rattle.std.specs.Option.{option_map}
+use Rattle.std.specs.Str.{IsUtf8}
 use Rattle.std.specs.Ordering.{nat_cmp}
-use Rattle.entries.specs.Entries.{of_types}
+use Rattle.entries.specs.Entries.{of_macros, of_types}
 use Rattle.entries.specs.declared.per_ns.PerNs.{PerNs}
 use Rattle.entries.specs.declared.visibility.Visibility.{Visibility}
+use Rattle.entries.specs.declared.visibility.Visibility.TheVariants.{Public}
 use Rattle.file_reader.specs.declared.reader.Known.{Known}
 use Rattle.file_reader.specs.declared.reader.Reader.{Reader}
-use Rattle.file_reader.specs.Statements.{known_of, Tells, deliveries, Imports}
+use Rattle.file_reader.specs.FullNames.{DeclaresAs, declared_above, meaning, macro_meant, enum_meant}
+use Rattle.file_reader.specs.Models.{model_by_name, pile_of}
+use Rattle.file_reader.specs.Refusals.{IsListable, IsRowNumber}
+use Rattle.file_reader.specs.Statements.{known_of, Tells, deliveries, imports_of}
+use Rattle.file_reader.specs.Told.{told_by, item_told, rows}
 use Rattle.firmware.specs.Models.{reached}
 use Rattle.firmware.specs.declared.definition.Definition.{Definition}
 use Rattle.firmware.specs.declared.definitions.Definitions.{Definitions}
-use Rattle.firmware.specs.declared.file.Declared.{Declared}
 use Rattle.firmware.specs.declared.models.Model.{Model}
-use Rattle.firmware.specs.declared.tables.RowsTold.{RowsTold}
 use Rattle.hir_def.specs.declared.BlockId.{BlockId}
 use Rattle.hir_def.specs.declared.CrateId.{CrateId}
 use Rattle.hir_def.specs.declared.EnumId.{EnumId}
@@ -25,20 +29,10 @@ use Rattle.hir_def.specs.declared.ModuleDefId.TheVariants as def
 use Rattle.hir_def.specs.declared.ModuleId.{ModuleId}
 use Rattle.hir_def.specs.declared.Name.{Name}
 use Rattle.hir_def.specs.declared.edition.Edition.{Edition}
-use Rattle.hir_def.specs.declared.import.ImportOrExternCrate.{ImportOrExternCrate}
-use Rattle.index_tables.specs.declared.keys.CrateName.{CrateName}
-use Rattle.index_tables.specs.declared.keys.EnumName.{EnumName}
-use Rattle.index_tables.specs.declared.keys.MapName.{MapName}
-use Rattle.index_tables.specs.declared.keys.ModuleName.{ModuleName}
 use Rattle.item_scope.specs.declared.index_data.CallStyles.{CallStyles}
 use Rattle.item_scope.specs.declared.index_data.DefMapId.{DefMapId}
 use Rattle.item_scope.specs.declared.index_data.DefMapId.TheVariants as map_id
 use Rattle.item_scope.specs.declared.index_data.EnumVariant.{EnumVariant}
-use Rattle.item_scope.specs.declared.index_data.ExternPrelude.{ExternPrelude}
-use Rattle.item_scope.specs.declared.index_data.MacroUse.{MacroUse}
-use Rattle.keyed.specs.declared.row.Row.{Row}
-use Rattle.nameres.specs.declared.tree_rows.BlockRow.{BlockRow}
-use Rattle.nameres.specs.declared.tree_rows.CrateRow.{CrateRow}
 use Rattle.nameres.specs.declared.tree_rows.ModuleRow.{ModuleRow}
 use Rattle.path_resolution.specs.declared.question.Question.{Question}
 use Rattle.path_text.specs.Lists.{as_name, first}
@@ -48,59 +42,11 @@ use Rattle.statements.specs.Names.{Parts}
 use Rattle.statements.specs.declared.clauses.RawVisibility.{RawVisibility}
 use Rattle.statements.specs.declared.clauses.Site.{Site}
 use Rattle.statements.specs.declared.kinds.Bringing.{Bringing}
+use Rattle.statements.specs.declared.kinds.Bringing.TheVariants as bringing
 use Rattle.statements.specs.declared.kinds.ItemKind.{ItemKind}
 use Rattle.statements.specs.declared.kinds.ItemKind.TheVariants as kind
 use Rattle.statements.specs.declared.kinds.Shape.{Shape}
-use Rattle.statements.specs.Kinds.{entries_of, has_constructor}
-
--- the rows of a table
-abbrev pub rows : {K V : Type 0} → RowsTold K V → List (Row K V)
-rows t = vec_items t.rows
-
--- an item by its name, the full name of its module and its visibility
-abbrev pub item_told : Declared → List ℕ × (List ℕ × Visibility)
-item_told d = (d.name.now, (d.«module».now, d.vis))
-
--- what a file tells as far as it is read: its names, the modules that are declared above, its definitions, the rows of its tables, its items, deliveries, paths and models
-pub record Told : Type 0 where
-  pub names : List (List ℕ)
-  pub above : BTreeMap (Bor (List ℕ)) Known
-  pub definitions : Definitions
-  pub modules : List ModuleRow
-  pub blocks : List BlockRow
-  pub crates : List CrateRow
-  pub items : List (List ℕ × (List ℕ × Visibility))
-  pub delivered : List (ModuleId × (PerNs × Option ImportOrExternCrate))
-  pub paths : List Word
-  pub questions : List (Option Question)
-  pub extern_prelude : List (Row CrateName ExternPrelude)
-  pub macro_use : List (Row MapName MacroUse)
-  pub preludes : List (Row DefMapId ModuleId)
-  pub legacy : List (Row ModuleName MacroId)
-  pub variants : List (Row EnumName EnumVariant)
-  pub styles : List CallStyles
-  pub models : List Model
-
-abbrev pub told_by : Reader → Told
-told_by r = record {
-  names = r.firmware.list;
-  above = r.by_name;
-  definitions = r.firmware.definitions;
-  modules = vec_items r.firmware.modules;
-  blocks = vec_items r.firmware.blocks;
-  crates = vec_items r.firmware.crates;
-  items = map item_told (vec_items r.firmware.items);
-  delivered = deliveries r;
-  paths = vec_items r.firmware.paths;
-  questions = vec_items r.firmware.questions;
-  extern_prelude = rows r.firmware.tables.extern_prelude;
-  macro_use = rows r.firmware.tables.macro_use;
-  preludes = rows r.firmware.tables.preludes;
-  legacy = rows r.firmware.tables.legacy;
-  variants = rows r.firmware.tables.variants;
-  styles = vec_items r.firmware.tables.styles;
-  models = vec_items r.firmware.models;
-}
+use Rattle.statements.specs.Kinds.{entries_of, has_constructor, import_of, with_visibility}
 
 -- what is asked of a path: by the module that is named, with the options that are told; nothing where nobody asks
 abbrev pub Asks : BTreeMap (Bor (List ℕ)) Known → Option Asking → Option Question → Type 0
@@ -115,11 +61,17 @@ AddsPath old path asking new =
     (q : Option Question) × Asks old.by_name asking q
     × (told_by new ≡ record (told_by old) { paths = vec_items old.firmware.paths ++ path ∷ []; questions = vec_items old.firmware.questions ++ q ∷ [] })
 
--- an item of a module that is declared above, with the visibility that is told there
+-- An item may stand in a module that is declared above, with the visibility that is told there, where its name may be listed.
+abbrev pub MayStand : BTreeMap (Bor (List ℕ)) Known → Site → Known → Visibility → Type 0
+MayStand above s at v =
+    IsListable s.name.text.now × IsUtf8 s.«module».text.now
+    × (known_of above s.«module».text.now ≡ Some at)
+    × Tells above at s.vis v
+
+-- an item of a module, and nothing but it
 abbrev pub AddsItem : Reader → Site → Known → Visibility → Reader → Type 0
 AddsItem old s at v new =
-    (known_of old.by_name s.«module».text.now ≡ Some at)
-    × Tells old.by_name at s.vis v
+    MayStand old.by_name s at v
     × (told_by new ≡ record (told_by old) { names = new.firmware.list; items = map item_told (vec_items old.firmware.items) ++ (s.name.text.now, (s.«module».text.now, v)) ∷ [] })
 
 -- the definitions that are counted with those of that kind
@@ -148,20 +100,28 @@ styles_of kind.Trait = []
 styles_of kind.TypeAlias = []
 styles_of (kind.Variant s) = []
 
+-- A definition may come in where its name and what is named around it are text, and one more is counted with 32 bits.
+abbrev pub MayDefine : Definitions → ItemKind → Word → Word → Type 0
+MayDefine d k name within = IsUtf8 name.text.now × IsUtf8 within.text.now × IsRowNumber (length (defined_as d k))
+
 -- a definition is numbered by its turn among those of its kind
 abbrev pub Defines : Reader → ItemKind → ℕ → Reader → Type 0
 Defines old k n new =
     (n ≡ length (defined_as old.firmware.definitions k))
     × (told_by new ≡ record (told_by old) { definitions = new.firmware.definitions; styles = vec_items old.firmware.tables.styles ++ styles_of k })
 
--- An item of a kind is delivered to the module in which it stands. It is what its kind and its turn make of it, as visible as is told.
+-- An item of a kind is delivered to the module in which it stands, and declared with its full name. It is what its kind and its turn make of it, as visible as is told.
 abbrev pub AddsDefinition : Reader → ItemKind → Site → Reader → Type 0
 AddsDefinition old k s new =
     (at : Known) × (v : Visibility)
+    × IsListable s.name.text.now
+    × MayDefine old.firmware.definitions k s.name s.«module»
     × (known_of old.by_name s.«module».text.now ≡ Some at)
     × Tells old.by_name at s.vis v
+    × DeclaresAs old s.«module».text s.name.text (entries_of k (length (defined_as old.firmware.definitions k)) v) new
     × (told_by new ≡ record (told_by old) {
       names = new.firmware.list;
+      declared = new.declared;
       definitions = new.firmware.definitions;
       items = map item_told (vec_items old.firmware.items) ++ (s.name.text.now, (s.«module».text.now, v)) ∷ [];
       delivered = deliveries old ++ (at.id, (entries_of k (length (defined_as old.firmware.definitions k)) v, None)) ∷ [];
@@ -188,11 +148,16 @@ IsCrate above w c = IsMap above w (map_id.Crate c.0) × IsModule above w c.1
 abbrev pub IsNumber : List (List ℕ) → List ℕ → Name → Type 0
 IsNumber names w n = as_name (first names w 0) ≡ Some n
 
+-- A module may come in where none is declared above with its full name, which is text, and one more is counted with 32 bits.
+abbrev pub MayDeclare : Reader → Word → Type 0
+MayDeclare old w =
+    (known_of old.by_name w.text.now ≡ None) × IsUtf8 w.text.now × IsRowNumber (length (vec_items old.firmware.modules))
+
 -- A module is numbered by its turn. It is declared above from then on, by its full name, and nothing else is.
 abbrev pub Declares : Reader → Word → ModuleRow → Option DefMapId → ModuleId → Reader → Type 0
 Declares old w row root id new =
     (id.0 ≡ length (vec_items old.firmware.modules))
-    × (known_of old.by_name w.text.now ≡ None)
+    × MayDeclare old w
     × Updates (λ a b. slice_cmp nat_cmp a.now b.now) old.by_name new.by_name w.text (Some (record { id = id; krate = row.krate; block = row.block; root_of = root }))
 
 -- a module of a row, and nothing but it
@@ -205,6 +170,7 @@ AddsModule old w row root id new =
 abbrev pub AddsCrate : Reader → Word → Edition → Reader → Type 0
 AddsCrate old w edition new =
     (root : ModuleId) × (row : ModuleRow) × (c : CrateId)
+    × IsListable w.text.now × IsRowNumber (length (vec_items old.firmware.crates))
     × (c.0 ≡ length (vec_items old.firmware.crates))
     × (row ≡ record { krate = c; block = None; parent = None })
     × Declares old w row (Some (map_id.Crate c)) root new
@@ -216,18 +182,21 @@ AddsCrate old w edition new =
       crates = vec_items old.firmware.crates ++ record { root = root; edition = edition } ∷ [];
     })
 
--- A module stands in the crate and the block of the one around it, and is delivered to it, as visible as is told.
+-- A module stands in the crate and the block of the one around it, and is delivered to it and declared in it, as visible as is told.
 abbrev pub AddsInner : Reader → Word → RawVisibility → Reader → Type 0
 AddsInner old w raw new =
     (outer : Word) × (name : Word) × (parent : Known) × (vis : Visibility) × (id : ModuleId) × (row : ModuleRow)
     × IsSplit w.text.now outer name
+    × IsListable name.text.now × IsUtf8 outer.text.now
     × (known_of old.by_name outer.text.now ≡ Some parent)
     × Tells old.by_name parent raw vis
     × (row ≡ record { krate = parent.krate; block = parent.block; parent = Some parent.id })
     × Declares old w row None id new
+    × DeclaresAs old outer.text name.text (of_types (def.ModuleId id) vis None) new
     × (told_by new ≡ record (told_by old) {
       names = new.firmware.list;
       above = new.by_name;
+      declared = new.declared;
       definitions = new.firmware.definitions;
       modules = vec_items old.firmware.modules ++ row ∷ [];
       delivered = deliveries old ++ (parent.id, (of_types (def.ModuleId id) vis None, None)) ∷ [];
@@ -238,6 +207,7 @@ abbrev pub AddsBlock : Reader → Word → Reader → Type 0
 AddsBlock old w new =
     (outer : Word) × (name : Word) × (around : Known) × (root : ModuleId) × (row : ModuleRow) × (b : BlockId)
     × IsSplit w.text.now outer name
+    × IsListable name.text.now × IsUtf8 outer.text.now × IsRowNumber (length (vec_items old.firmware.blocks))
     × (known_of old.by_name outer.text.now ≡ Some around)
     × (b.0 ≡ length (vec_items old.firmware.blocks))
     × (row ≡ record { krate = around.krate; block = Some b; parent = None })
@@ -254,6 +224,7 @@ AddsBlock old w new =
 abbrev pub AddsExternPrelude : Reader → Word → Word → Word → Reader → Type 0
 AddsExternPrelude old name krate meant new =
     (n : Name) × (of : CrateId × ModuleId) × (to : CrateId × ModuleId)
+    × IsListable name.text.now
     × IsNumber new.firmware.list name.text.now n
     × IsCrate old.by_name krate.text.now of
     × IsCrate old.by_name meant.text.now to
@@ -262,12 +233,14 @@ AddsExternPrelude old name krate meant new =
       extern_prelude = rows old.firmware.tables.extern_prelude ++ record { key = record { krate = of.0; name = n }; value = record { «module» = to.1; extern_crate = None } } ∷ [];
     })
 
--- a name in the macro-use prelude of a crate or a block
-abbrev pub AddsMacroUse : Reader → Word → Word → Reader → Type 0
-AddsMacroUse old name of new =
+-- a name in the macro-use prelude of a crate or a block, which means a macro that is declared above
+abbrev pub AddsMacroUse : Reader → Word → Word → Word → Reader → Type 0
+AddsMacroUse old name of meant new =
     (n : Name) × (m : DefMapId) × (d : MacroId)
+    × IsListable name.text.now
     × IsNumber new.firmware.list name.text.now n
     × IsMap old.by_name of.text.now m
+    × (macro_meant (declared_above old) meant.text.now ≡ Some d)
     × (told_by new ≡ record (told_by old) {
       names = new.firmware.list;
       macro_use = rows old.firmware.tables.macro_use ++ record { key = record { map = m; name = n }; value = record { def = d; extern_crate = None } } ∷ [];
@@ -281,52 +254,81 @@ AddsPrelude old m of new =
     × IsMap old.by_name of.text.now d
     × (told_by new ≡ record (told_by old) { preludes = rows old.firmware.tables.preludes ++ record { key = d; value = prelude } ∷ [] })
 
--- a new macro by its name alone, in that module: it is called as `m!()`
+-- a new macro by its name alone, in that module: it is called as `m!()`, and all see it
 abbrev pub AddsLegacy : Reader → Word → Word → Reader → Type 0
 AddsLegacy old name m new =
     (at : ModuleId) × (n : Name) × (d : MacroId)
     × IsModule old.by_name m.text.now at
+    × IsListable name.text.now × IsUtf8 m.text.now × IsRowNumber (length (vec_items old.firmware.definitions.macros))
     × IsNumber new.firmware.list name.text.now n
     × (d.0 ≡ length (vec_items old.firmware.definitions.macros))
+    × DeclaresAs old m.text name.text (of_macros d Public None) new
     × (told_by new ≡ record (told_by old) {
       names = new.firmware.list;
+      declared = new.declared;
       definitions = new.firmware.definitions;
       legacy = rows old.firmware.tables.legacy ++ record { key = record { at = at; name = n }; value = d } ∷ [];
       styles = vec_items old.firmware.tables.styles ++ record { fn_like = true; attr = false; derive = false } ∷ [];
     })
 
--- a name of a macro in that module
-abbrev pub AddsLegacyOf : Reader → Word → Word → Reader → Type 0
-AddsLegacyOf old name m new =
+-- a name, in that module, of a macro that is declared above
+abbrev pub AddsLegacyOf : Reader → Word → Word → Word → Reader → Type 0
+AddsLegacyOf old name m meant new =
     (at : ModuleId) × (n : Name) × (d : MacroId)
     × IsModule old.by_name m.text.now at
+    × IsListable name.text.now
     × IsNumber new.firmware.list name.text.now n
+    × (macro_meant (declared_above old) meant.text.now ≡ Some d)
     × (told_by new ≡ record (told_by old) {
       names = new.firmware.list;
       legacy = rows old.firmware.tables.legacy ++ record { key = record { at = at; name = n }; value = d } ∷ [];
     })
 
+-- what an import brings: of an extern crate the root of the crate, else what the full name means
+abbrev pub Brings : Reader → Bringing → List ℕ → PerNs → Type 0
+Brings old bringing.ExternCrate full e = (c : CrateId × ModuleId) × IsCrate old.by_name full c × (e ≡ of_types (def.ModuleId c.1) Public None)
+Brings old b full e = meaning (declared_above old) full ≡ Some e
+
+-- An import makes one more delivery, to the module where it stands. Its import is the statement's turn among those of its word, and
+-- all that it brings is as visible as the statement tells.
+abbrev pub Imports : Reader → Bringing → Word → Site → Reader → Type 0
+Imports old b full s new =
+    (at : Known) × (v : Visibility) × (e : PerNs)
+    × (known_of old.by_name s.«module».text.now ≡ Some at)
+    × Tells old.by_name at s.vis v
+    × Brings old b full.text.now e
+    × IsListable s.name.text.now × IsUtf8 s.«module».text.now × IsRowNumber (length (imports_of old.firmware.definitions b))
+    × (deliveries new ≡ deliveries old ++ (at.id, (with_visibility v e, Some (import_of b (length (imports_of old.firmware.definitions b))))) ∷ [])
+
 -- An import adds what it delivers, and a definition.
-abbrev pub AddsImport : Reader → Bringing → Site → Reader → Type 0
-AddsImport old b s new =
-    Imports old b s new
+abbrev pub AddsImport : Reader → Bringing → Word → Site → Reader → Type 0
+AddsImport old b full s new =
+    Imports old b full s new
     × (told_by new ≡ record (told_by old) { names = new.firmware.list; definitions = new.firmware.definitions; delivered = deliveries new })
 
--- A variant is numbered by its turn among all that are counted with it. It is delivered nowhere. Which enum it is of this does not say.
+-- A variant is of the enum that its full name begins with, and as visible. It is numbered by its turn among all that are counted with it. It is declared with its full name, and delivered nowhere.
 abbrev pub AddsVariant : Reader → Word → Shape → Reader → Type 0
 AddsVariant old w shape new =
-    (outer : Word) × (name : Word) × (of : EnumId) × (n : Name) × (v : EnumVariant)
+    (outer : Word) × (name : Word) × (of : EnumId) × (vis : Visibility) × (n : Name) × (v : EnumVariant)
     × IsSplit w.text.now outer name
+    × IsListable name.text.now × IsUtf8 outer.text.now × IsRowNumber (length (vec_items old.firmware.definitions.others))
     × IsNumber new.firmware.list name.text.now n
+    × (enum_meant (declared_above old) outer.text.now ≡ Some (of, vis))
     × (v ≡ record { variant = record { 0 = length (vec_items old.firmware.definitions.others) }; has_constructor = has_constructor shape })
+    × DeclaresAs old outer.text name.text (entries_of (kind.Variant shape) v.variant.0 vis) new
     × (told_by new ≡ record (told_by old) {
       names = new.firmware.list;
+      declared = new.declared;
       definitions = new.firmware.definitions;
       variants = rows old.firmware.tables.variants ++ record { key = record { of = of; name = n }; value = v } ∷ [];
     })
 
--- A model of that name begins a part of the file. Over which model it stands this does not say.
-abbrev pub AddsModel : Reader → Word → Reader → Type 0
-AddsModel old w new =
+-- A model of that name begins a part of the file. It is the only one of its name, by which it is found from then on. It stands alone, or over the model that is named.
+abbrev pub AddsModel : Reader → Word → Option Word → Reader → Type 0
+AddsModel old w below new =
     (m : Model) × (m.name.now ≡ w.text.now) × (m.began ≡ reached old.firmware)
-    × (told_by new ≡ record (told_by old) { models = vec_items old.firmware.models ++ m ∷ [] })
+    × IsUtf8 w.text.now
+    × (model_by_name old.model_numbers w.text.now ≡ None)
+    × (pile_of old.model_numbers (vec_items old.firmware.models) below (length (vec_items old.firmware.models)) ≡ Some m.pile)
+    × Updates (λ a b. slice_cmp nat_cmp a.now b.now) old.model_numbers new.model_numbers w.text (Some (length (vec_items old.firmware.models)))
+    × (told_by new ≡ record (told_by old) { models = vec_items old.firmware.models ++ m ∷ []; model_numbers = new.model_numbers })

@@ -1,7 +1,14 @@
 // What statements of several kinds add to a file: names, items, deliveries and paths.
-ghost use Rattle.std.specs.Prelude.{◌≡◌, ◌++◌, ◌∷◌, [], IfOk, OnOk};
+ghost use Rattle.std.specs.Prelude.{◌≡◌, ◌++◌, ◌∷◌, [], IfOk, MatchResult, OnOk, Option};
+ghost use Rattle.std.specs.Str.{IsUtf8};
+ghost use Rattle.file_reader.specs.declared.reader.Known.{Known};
+ghost use Rattle.file_reader.specs.Refusals.{IsListable, NoReader, OnRefused};
 ghost use Rattle.file_reader.specs.Statements.{Names, Tells, deliveries};
-ghost use Rattle.file_reader.specs.Tables.{told_by, IsNumber, Asks, AddsPath, AddsItem};
+ghost use Rattle.file_reader.specs.Tables.{IsNumber, Asks, AddsPath, AddsItem, MayStand};
+ghost use Rattle.file_reader.specs.Told.{told_by};
+ghost use Rattle.entries.specs.declared.visibility.Visibility.{Visibility};
+ghost use Rattle.hir_def.specs.declared.ModuleId.{ModuleId};
+ghost use Rattle.path_resolution.specs.declared.question.Question.{Question};
 
 use crate::reader::{Known, Reader};
 use entries::per_ns::PerNs;
@@ -16,6 +23,7 @@ use source_text::words::Word;
 use statements::asking::Asking;
 use statements::clauses::{RawVisibility, Site};
 use statements::names::{name_of, numbered, text_of};
+use std::alloc::AllocError;
 use troubles::complaint::Complaint;
 use troubles::trouble::Trouble;
 
@@ -26,16 +34,14 @@ impl<'a> Reader<'a> {
         ensures told { told_by self.new ≡ record (told_by self.old) { names = self.new.firmware.list } }
         ensures numbered { IfOk result (λ p. IsNumber self.new.firmware.list word.entry.text.now p.1) }
         ensures named { IfOk result (λ p. p.0.now ≡ word.entry.text.now) }
+        ensures listable { OnOk result (IsListable word.entry.text.now) }
+        ensures refused { OnRefused result (¬ (IsListable word.entry.text.now)) }
     {
         let name = name_of(word)?;
         self.firmware.list.add(word.text)?;
-        match self.firmware.list.number(word.text) {
-            Some(number) => {
-                self.firmware.name_count = self.firmware.name_count.max(number.0.saturating_add(1));
-                Ok((name, number))
-            }
-            None => Err(Failure::from(Complaint::at(word, "this is no name", "a name"))),
-        }
+        let number = self.firmware.list.number(word.text).ok_or(AllocError)?;
+        self.firmware.name_count = self.firmware.name_count.max(number.0.saturating_add(1));
+        Ok((name, number))
     }
 
     pub(crate) fn deliver(
@@ -48,6 +54,8 @@ impl<'a> Reader<'a> {
     ) -> Result<(), Failure<Trouble>>
         ensures deliveries { OnOk result (deliveries self.new ≡ deliveries self.old ++ (receiver, (entries, import)) ∷ []) }
         ensures told { OnOk result (told_by self.new ≡ record (told_by self.old) { names = self.new.firmware.list; delivered = deliveries self.old ++ (receiver, (entries, import)) ∷ [] }) }
+        ensures texts { OnOk result (IsListable word.entry.text.now × IsUtf8 «module».entry.text.now) }
+        ensures refused { OnRefused result (¬ (IsListable word.entry.text.now × IsUtf8 «module».entry.text.now)) }
     {
         let (name, number) = self.list_name(word)?;
         self.firmware.deliveries.push(DeliveryStatement {
@@ -66,7 +74,8 @@ impl<'a> Reader<'a> {
 
     // The module of `pub(in MODULE)`.
     fn named(&self, word: Word<'a>) -> Result<ModuleId, Complaint>
-        ensures { IfOk result (Names self.now.by_name word.entry.text.now) }
+        ensures { MatchResult result (Names self.now.by_name word.entry.text.now)
+            (λ _. (m : ModuleId) → ¬ (Names self.now.by_name word.entry.text.now m)) }
     {
         match numbered(word.text) {
             Some(row) => Ok(ModuleId(row)),
@@ -79,7 +88,8 @@ impl<'a> Reader<'a> {
         at: Known,
         raw: RawVisibility<'a>,
     ) -> Result<Visibility, Complaint>
-        ensures { IfOk result (Tells self.now.by_name at raw.entry) }
+        ensures { MatchResult result (Tells self.now.by_name at raw.entry)
+            (λ _. (v : Visibility) → ¬ (Tells self.now.by_name at raw.entry v)) }
     {
         match raw {
             RawVisibility::Public => Ok(Visibility::Public),
@@ -100,7 +110,9 @@ impl<'a> Reader<'a> {
         &mut self,
         site: Site<'a>,
     ) -> Result<(Known, Visibility), Failure<Trouble>>
-        ensures { IfOk result (λ p. AddsItem self.old site.entry p.0 p.1 self.new) }
+        ensures added { IfOk result (λ p. AddsItem self.old site.entry p.0 p.1 self.new) }
+        ensures refused { OnRefused result ((at : Known) → (v : Visibility) →
+            ¬ (MayStand self.old.by_name site.entry at v)) }
     {
         let (name, _) = self.list_name(site.name)?;
         let at = self.known(site.module)?;
@@ -115,7 +127,8 @@ impl<'a> Reader<'a> {
 
     // What is asked of a path, if anyone asks it.
     fn question(&self, asking: Option<Asking<'a>>) -> Result<Option<Question>, Complaint>
-        ensures { IfOk result (Asks self.now.by_name asking.entry) }
+        ensures { MatchResult result (Asks self.now.by_name asking.entry)
+            (λ _. (q : Option Question) → ¬ (Asks self.now.by_name asking.entry q)) }
     {
         match asking {
             Some(asking) => Ok(Some(asking.question(self.known(asking.module)?.id))),
@@ -128,7 +141,8 @@ impl<'a> Reader<'a> {
         text: Word<'a>,
         asking: Option<Asking<'a>>,
     ) -> Result<(), Failure<Trouble>>
-        ensures { OnOk result (AddsPath self.old text.entry asking.entry self.new) }
+        ensures added { OnOk result (AddsPath self.old text.entry asking.entry self.new) }
+        ensures refused { OnRefused result (NoReader (AddsPath self.old text.entry asking.entry)) }
     {
         let question = self.question(asking)?;
         self.firmware.paths.push(text)?;

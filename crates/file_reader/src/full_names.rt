@@ -1,30 +1,23 @@
 // Full names: the modules that a file declares, and what it declares with a kind, part by part.
-ghost use Rattle.std.specs.Prelude.{◌≡◌};
+ghost use Rattle.std.specs.Prelude.{◌≡◌, OnOk};
 ghost use Rattle.std.specs.Result.{result_ok};
+ghost use Rattle.file_reader.specs.FullNames.{DeclaresAs, declared_above, declared_in, declared_in_all, entries_above, meaning};
 ghost use Rattle.file_reader.specs.Statements.{known_of};
-ghost use Rattle.file_reader.specs.Tables.{told_by};
+ghost use Rattle.file_reader.specs.Told.{told_by};
+ghost use Rattle.firmware.specs.Piles.{parts_of};
+ghost use Rattle.firmware.specs.declared.pile.Part.TheVariants as part;
 
 use crate::reader::{Known, Reader};
 use entries::per_ns::PerNs;
 use entries::visibility::Visibility;
 use firmware::pile::{Part, Pile};
 use hir_def::ModuleDefId;
-use hir_def::fault::Failure;
 use source_text::words::Word;
 use statements::names::split;
+use std::alloc::AllocError;
 use troubles::complaint::Complaint;
-use troubles::trouble::Trouble;
 
 const MODULE: &str = "the full name of a module declared above, as in `raid::layout`";
-
-// The models of a pile from the lowest, three at most.
-fn models_of(pile: Pile) -> [Option<usize>; 3] {
-    match pile {
-        Pile::One(a) => [Some(a), None, None],
-        Pile::Two(a, b) => [Some(a), Some(b), None],
-        Pile::Three(a, b, c) => [Some(a), Some(b), Some(c)],
-    }
-}
 
 impl<'a> Reader<'a> {
     pub(crate) fn known(&self, word: Word<'a>) -> Result<Known, Complaint>
@@ -37,7 +30,10 @@ impl<'a> Reader<'a> {
     }
 
     // What a part declares with a full name: nothing where it has none such.
-    fn declared_in(&self, part: Part, within: &'a [u8], name: &'a [u8]) -> PerNs {
+    #[tactic(auto, unfolding(crate::specs::FullNames::declared_in))]
+    fn declared_in(&self, part: Part, within: &'a [u8], name: &'a [u8]) -> PerNs
+        ensures { result ≡ declared_in self.now.declared part within.now name.now }
+    {
         match self.declared.get(&(part, within, name)) {
             Some(entries) => *entries,
             None => PerNs::none(),
@@ -45,13 +41,15 @@ impl<'a> Reader<'a> {
     }
 
     // What a part declares first with a full name holds it there, in each namespace.
+    #[tactic(auto, unfolding(crate::specs::FullNames::Gains))]
     pub(crate) fn declare(
         &mut self,
         within: &'a [u8],
         name: &'a [u8],
         entries: PerNs,
-    ) -> Result<(), Failure<Trouble>>
-        ensures { told_by self.new ≡ told_by self.old }
+    ) -> Result<(), AllocError>
+        ensures told { told_by self.new ≡ record (told_by self.old) { declared = self.new.declared } }
+        ensures declared { OnOk result (DeclaresAs self.old within.entry name.entry entries self.new) }
     {
         let part = self.part();
         let known = self.declared_in(part, within, name).or(entries);
@@ -59,21 +57,46 @@ impl<'a> Reader<'a> {
         Ok(())
     }
 
+    fn declared_in_model(&self, model: usize, within: &'a [u8], name: &'a [u8]) -> PerNs
+        ensures { result ≡ declared_in self.now.declared (part.Model model) within.now name.now }
+    {
+        self.declared_in(Part::Model(model), within, name)
+    }
+
     // What the base declares with a full name comes first, then what the models of the pile do from the lowest.
-    fn declared_in_pile(&self, within: &'a [u8], name: &'a [u8]) -> PerNs {
-        let mut found = self.declared_in(Part::Base, within, name);
-        if let Some(model) = self.firmware.models.last() {
-            for level in models_of(model.pile) {
-                if let Some(model) = level {
-                    found = found.or(self.declared_in(Part::Model(model), within, name));
-                }
-            }
+    #[tactic(auto, unfolding(crate::specs::FullNames::declared_in_all))]
+    fn declared_in_parts(&self, pile: Pile, within: &'a [u8], name: &'a [u8]) -> PerNs
+        ensures { result ≡ declared_in_all self.now.declared (parts_of pile) within.now name.now }
+    {
+        let base = self.declared_in(Part::Base, within, name);
+        match pile {
+            Pile::One(a) => base.or(self.declared_in_model(a, within, name)),
+            Pile::Two(a, b) => base
+                .or(self.declared_in_model(a, within, name))
+                .or(self.declared_in_model(b, within, name)),
+            Pile::Three(a, b, c) => base
+                .or(self.declared_in_model(a, within, name))
+                .or(self.declared_in_model(b, within, name))
+                .or(self.declared_in_model(c, within, name)),
         }
-        found
+    }
+
+    // What the base declares with a full name, and the models of the last one's pile.
+    #[tactic(auto, unfolding(crate::specs::FullNames::declared_in_all))]
+    fn declared_in_pile(&self, within: &'a [u8], name: &'a [u8]) -> PerNs
+        ensures { result ≡ entries_above (declared_above self.now) within.now name.now }
+    {
+        match self.firmware.models.last() {
+            Some(model) => self.declared_in_parts(model.pile, within, name),
+            None => self.declared_in(Part::Base, within, name),
+        }
     }
 
     // What the file declares above with that full name and a kind, in the base or in the pile; a crate too.
-    pub(crate) fn declared_as(&self, word: Word<'a>) -> Result<PerNs, Complaint> {
+    #[tactic(auto, unfolding(crate::specs::FullNames::meaning))]
+    pub(crate) fn declared_as(&self, word: Word<'a>) -> Result<PerNs, Complaint>
+        ensures { result_ok result ≡ meaning (declared_above self.now) word.entry.text.now }
+    {
         let Ok((outer, name)) = split(word) else {
             let def = ModuleDefId::ModuleId(self.known(word)?.id);
             return Ok(PerNs::types(def, Visibility::Public, None));

@@ -1,9 +1,17 @@
 // What the statements of items, macros, imports and preludes add to a file's tables and deliveries.
-ghost use Rattle.std.specs.Prelude.{◌≡◌, ◌++◌, ◌∷◌, [], IfOk, OnOk, length, vec_items};
+ghost use Rattle.std.specs.Prelude.{◌≡◌, ◌++◌, ◌∷◌, [], IfOk, MatchResult, OnOk, length, vec_items};
+ghost use Rattle.std.specs.Result.{result_ok};
 ghost use Rattle.file_reader.specs.Definitions.{Grows, Keeps, items_of};
 ghost use Rattle.firmware.specs.declared.definition.Standing.TheVariants.{Place};
+ghost use Rattle.file_reader.specs.FullNames.{declared_above, enum_in, enum_meant, macro_meant};
+ghost use Rattle.file_reader.specs.Refusals.{NoReader, OnRefused};
 ghost use Rattle.file_reader.specs.Statements.{imports_of};
-ghost use Rattle.file_reader.specs.Tables.{rows, defined_as, Defines, AddsDefinition, AddsExternPrelude, AddsImport, AddsLegacy, AddsLegacyOf, AddsMacroUse, AddsPrelude, AddsVariant, IsCrate, IsMap};
+ghost use Rattle.file_reader.specs.Tables.{Brings, defined_as, Defines, AddsDefinition, AddsExternPrelude, AddsImport, AddsLegacy, AddsLegacyOf, AddsMacroUse, AddsPrelude, AddsVariant, IsCrate, IsMap, MayDefine};
+ghost use Rattle.file_reader.specs.Told.{rows};
+ghost use Rattle.entries.specs.declared.per_ns.PerNs.{PerNs};
+ghost use Rattle.hir_def.specs.declared.CrateId.{CrateId};
+ghost use Rattle.hir_def.specs.declared.ModuleId.{ModuleId};
+ghost use Rattle.item_scope.specs.declared.index_data.DefMapId.{DefMapId};
 
 use crate::reader::Reader;
 use entries::per_ns::PerNs;
@@ -81,8 +89,21 @@ fn of_imports<'d, 'a>(
     }
 }
 
+// The enum among the entries of a name, and who sees it.
+fn enum_in(entries: PerNs) -> Option<(EnumId, Visibility)>
+    ensures { result ≡ enum_in entries }
+{
+    let item = entries.types?;
+    match item.def {
+        ModuleDefId::AdtId(AdtId::EnumId(id)) => Some((id, item.vis)),
+        _ => None,
+    }
+}
+
 impl<'a> Reader<'a> {
-    fn macro_of(&self, word: Word<'a>) -> Result<MacroId, Complaint> {
+    fn macro_of(&self, word: Word<'a>) -> Result<MacroId, Complaint>
+        ensures { result_ok result ≡ macro_meant (declared_above self.now) word.entry.text.now }
+    {
         match self.declared_as(word)?.macros {
             Some(item) => Ok(item.def),
             None => Err(Complaint::at(
@@ -93,19 +114,19 @@ impl<'a> Reader<'a> {
         }
     }
 
-    fn enum_of(&self, word: Word<'a>) -> Result<(EnumId, Visibility), Complaint> {
-        const ENUM: &str = "the full name of an enum declared above";
-        match self.declared_as(word)?.types {
-            Some(item) => match item.def {
-                ModuleDefId::AdtId(AdtId::EnumId(id)) => Ok((id, item.vis)),
-                _ => Err(Complaint::at(word, "this is no enum", ENUM)),
-            },
-            None => Err(Complaint::at(word, "this is no enum", ENUM)),
-        }
+    fn enum_of(&self, word: Word<'a>) -> Result<(EnumId, Visibility), Complaint>
+        ensures { result_ok result ≡ enum_meant (declared_above self.now) word.entry.text.now }
+    {
+        enum_in(self.declared_as(word)?).ok_or(Complaint::at(
+            word,
+            "this is no enum",
+            "the full name of an enum declared above",
+        ))
     }
 
     fn crate_of(&self, word: Word<'a>) -> Result<(CrateId, ModuleId), Complaint>
-        ensures { IfOk result (IsCrate self.now.by_name word.entry.text.now) }
+        ensures { MatchResult result (IsCrate self.now.by_name word.entry.text.now)
+            (λ _. (c : CrateId × ModuleId) → ¬ (IsCrate self.now.by_name word.entry.text.now c)) }
     {
         let known = self.known(word)?;
         match known.root_of {
@@ -119,7 +140,8 @@ impl<'a> Reader<'a> {
     }
 
     fn map_of(&self, word: Word<'a>) -> Result<DefMapId, Complaint>
-        ensures { IfOk result (IsMap self.now.by_name word.entry.text.now) }
+        ensures { MatchResult result (IsMap self.now.by_name word.entry.text.now)
+            (λ _. (m : DefMapId) → ¬ (IsMap self.now.by_name word.entry.text.now m)) }
     {
         self.known(word)?.root_of.ok_or(Complaint::at(
             word,
@@ -138,6 +160,8 @@ impl<'a> Reader<'a> {
     ) -> Result<u32, Failure<Trouble>>
         ensures numbered { IfOk result (λ n. Defines self.old kind n self.new) }
         ensures kept { OnOk result (Keeps self.old.firmware.definitions kind name.entry within.entry standing self.new.firmware.definitions) }
+        ensures texts { OnOk result (MayDefine self.old.firmware.definitions kind name.entry within.entry) }
+        ensures refused { OnRefused result (¬ (MayDefine self.old.firmware.definitions kind name.entry within.entry)) }
         ensures listed { IfOk result (λ n. vec_items self.new.firmware.definitions.of_a_kind ≡ vec_items self.old.firmware.definitions.of_a_kind ++ items_of kind n) }
     {
         let definition = Definition {
@@ -165,6 +189,7 @@ impl<'a> Reader<'a> {
         site: Site<'a>,
     ) -> Result<(), Failure<Trouble>>
         ensures added { OnOk result (AddsDefinition self.old kind site.entry self.new) }
+        ensures refused { OnRefused result (NoReader (AddsDefinition self.old kind site.entry)) }
         ensures kept { OnOk result (Keeps self.old.firmware.definitions kind site.entry.name site.entry.«module» Place self.new.firmware.definitions) }
         ensures listed { OnOk result (vec_items self.new.firmware.definitions.of_a_kind ≡ vec_items self.old.firmware.definitions.of_a_kind ++ items_of kind (length (defined_as self.old.firmware.definitions kind))) }
     {
@@ -181,7 +206,8 @@ impl<'a> Reader<'a> {
         word: Word<'a>,
         shape: Shape,
     ) -> Result<(), Failure<Trouble>>
-        ensures { OnOk result (AddsVariant self.old word.entry shape self.new) }
+        ensures added { OnOk result (AddsVariant self.old word.entry shape self.new) }
+        ensures refused { OnRefused result (NoReader (AddsVariant self.old word.entry shape)) }
     {
         let (outer, name) = split(word)?;
         let (_, number) = self.list_name(name)?;
@@ -194,7 +220,7 @@ impl<'a> Reader<'a> {
         };
         let key = EnumName { of, name: number };
         tell(&mut self.firmware.tables.variants, key, row, word)?;
-        self.declare(outer.text, name.text, kind.entries(variant, vis))
+        Ok(self.declare(outer.text, name.text, kind.entries(variant, vis))?)
     }
 
     /// A `macro_rules!` macro, which is called by its name alone: it is delivered nowhere.
@@ -203,7 +229,8 @@ impl<'a> Reader<'a> {
         name: Word<'a>,
         module: Word<'a>,
     ) -> Result<(), Failure<Trouble>>
-        ensures { OnOk result (AddsLegacy self.old name.entry «module».entry self.new) }
+        ensures added { OnOk result (AddsLegacy self.old name.entry «module».entry self.new) }
+        ensures refused { OnRefused result (NoReader (AddsLegacy self.old name.entry «module».entry)) }
     {
         let at = self.known(module)?.id;
         let (_, number) = self.list_name(name)?;
@@ -220,7 +247,7 @@ impl<'a> Reader<'a> {
             name,
         )?;
         let entries = PerNs::macros(def, Visibility::Public, None);
-        self.declare(module.text, name.text, entries)
+        Ok(self.declare(module.text, name.text, entries)?)
     }
 
     /// A name by which a macro declared above is called in one more module.
@@ -230,7 +257,8 @@ impl<'a> Reader<'a> {
         module: Word<'a>,
         meant: Word<'a>,
     ) -> Result<(), Failure<Trouble>>
-        ensures { OnOk result (AddsLegacyOf self.old name.entry «module».entry self.new) }
+        ensures added { OnOk result (AddsLegacyOf self.old name.entry «module».entry meant.entry self.new) }
+        ensures refused { OnRefused result (NoReader (AddsLegacyOf self.old name.entry «module».entry meant.entry)) }
     {
         let at = self.known(module)?.id;
         let (_, number) = self.list_name(name)?;
@@ -244,7 +272,10 @@ impl<'a> Reader<'a> {
     }
 
     // What an import of that kind brings by a full name.
-    fn imported(&self, bringing: Bringing, full: Word<'a>) -> Result<PerNs, Complaint> {
+    fn imported(&self, bringing: Bringing, full: Word<'a>) -> Result<PerNs, Complaint>
+        ensures { MatchResult result (Brings self.now bringing full.entry.text.now)
+            (λ _. (e : PerNs) → ¬ (Brings self.now bringing full.entry.text.now e)) }
+    {
         match bringing {
             Bringing::ExternCrate => {
                 let (_, root) = self.crate_of(full)?;
@@ -262,7 +293,8 @@ impl<'a> Reader<'a> {
         full: Word<'a>,
         site: Site<'a>,
     ) -> Result<(), Failure<Trouble>>
-        ensures { OnOk result (AddsImport self.old bringing site.entry self.new) }
+        ensures added { OnOk result (AddsImport self.old bringing full.entry site.entry self.new) }
+        ensures refused { OnRefused result (NoReader (AddsImport self.old bringing full.entry site.entry)) }
     {
         let at = self.known(site.module)?;
         let vis = self.visibility(at, site.vis)?;
@@ -285,7 +317,8 @@ impl<'a> Reader<'a> {
         krate: Word<'a>,
         meant: Word<'a>,
     ) -> Result<(), Failure<Trouble>>
-        ensures { OnOk result (AddsExternPrelude self.old name.entry krate.entry meant.entry self.new) }
+        ensures added { OnOk result (AddsExternPrelude self.old name.entry krate.entry meant.entry self.new) }
+        ensures refused { OnRefused result (NoReader (AddsExternPrelude self.old name.entry krate.entry meant.entry)) }
     {
         let (_, number) = self.list_name(name)?;
         let (of, _) = self.crate_of(krate)?;
@@ -310,7 +343,8 @@ impl<'a> Reader<'a> {
         map: Word<'a>,
         meant: Word<'a>,
     ) -> Result<(), Failure<Trouble>>
-        ensures { OnOk result (AddsMacroUse self.old name.entry map.entry self.new) }
+        ensures added { OnOk result (AddsMacroUse self.old name.entry map.entry meant.entry self.new) }
+        ensures refused { OnRefused result (NoReader (AddsMacroUse self.old name.entry map.entry meant.entry)) }
     {
         let (_, number) = self.list_name(name)?;
         let map = self.map_of(map)?;
@@ -331,7 +365,8 @@ impl<'a> Reader<'a> {
         module: Word<'a>,
         map: Word<'a>,
     ) -> Result<(), Failure<Trouble>>
-        ensures { OnOk result (AddsPrelude self.old «module».entry map.entry self.new) }
+        ensures added { OnOk result (AddsPrelude self.old «module».entry map.entry self.new) }
+        ensures refused { OnRefused result (NoReader (AddsPrelude self.old «module».entry map.entry)) }
     {
         let of = self.map_of(map)?;
         let prelude = self.known(module)?.id;

@@ -1,5 +1,8 @@
 // What the statements of models add to a file: each begins a part of it.
-ghost use Rattle.std.specs.Prelude.{OnOk};
+ghost use Rattle.std.specs.Prelude.{◌≡◌, OnOk, vec_items};
+ghost use Rattle.std.specs.Result.{result_ok};
+ghost use Rattle.file_reader.specs.Models.{part_of, pile_over};
+ghost use Rattle.file_reader.specs.Refusals.{NoReader, OnRefused};
 ghost use Rattle.file_reader.specs.Tables.{AddsModel};
 
 use crate::reader::Reader;
@@ -13,7 +16,9 @@ use troubles::trouble::Trouble;
 
 impl<'a> Reader<'a> {
     // The part to which the next statement belongs.
-    pub(crate) fn part(&self) -> Part {
+    pub(crate) fn part(&self) -> Part
+        ensures { result ≡ part_of (vec_items self.now.firmware.models) }
+    {
         match self.firmware.models.last() {
             Some(model) => Part::Model(model.pile.top()),
             None => Part::Base,
@@ -21,7 +26,10 @@ impl<'a> Reader<'a> {
     }
 
     // The pile of a model over the one of that name.
-    fn pile_over(&self, word: Word<'a>, model: usize) -> Result<Pile, Complaint> {
+    fn pile_over(&self, word: Word<'a>, model: usize) -> Result<Pile, Complaint>
+        ensures { result_ok result
+            ≡ pile_over self.now.model_numbers (vec_items self.now.firmware.models) word.entry.text.now model }
+    {
         let below = match self.model_numbers.get(word.text) {
             Some(number) => self.firmware.models.get(*number),
             None => None,
@@ -46,7 +54,8 @@ impl<'a> Reader<'a> {
         word: Word<'a>,
         below: Option<Word<'a>>,
     ) -> Result<(), Failure<Trouble>>
-        ensures { OnOk result (AddsModel self.old word.entry self.new) }
+        ensures added { OnOk result (AddsModel self.old word.entry below.entry self.new) }
+        ensures refused { OnRefused result (NoReader (AddsModel self.old word.entry below.entry)) }
     {
         if self.model_numbers.contains_key(word.text) {
             return Err(Failure::from(Complaint::at(

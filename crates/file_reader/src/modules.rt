@@ -1,6 +1,8 @@
 // What the statements of crates, modules and blocks add to a file's tree.
 ghost use Rattle.std.specs.Prelude.{IfOk, OnOk};
-ghost use Rattle.file_reader.specs.Tables.{AddsBlock, AddsCrate, AddsInner, AddsModule};
+ghost use Rattle.std.specs.Str.{IsUtf8};
+ghost use Rattle.file_reader.specs.Refusals.{NoReader, OnRefused};
+ghost use Rattle.file_reader.specs.Tables.{AddsBlock, AddsCrate, AddsInner, AddsModule, MayDeclare};
 
 use crate::reader::{Known, Reader};
 use entries::per_ns::PerNs;
@@ -26,7 +28,10 @@ impl<'a> Reader<'a> {
         row: ModuleRow,
         root_of: Option<DefMapId>,
     ) -> Result<ModuleId, Failure<Trouble>>
-        ensures { IfOk result (λ id. AddsModule self.old word.entry row root_of id self.new) }
+        ensures added { IfOk result (λ id. AddsModule self.old word.entry row root_of id self.new) }
+        ensures texts { OnOk result (IsUtf8 within.entry.text.now × IsUtf8 name.entry.text.now) }
+        ensures refused { OnRefused result (¬ (MayDeclare self.old word.entry
+            × IsUtf8 within.entry.text.now × IsUtf8 name.entry.text.now)) }
     {
         if self.by_name.contains_key(word.text) {
             return Err(Failure::from(Complaint::at(
@@ -62,7 +67,8 @@ impl<'a> Reader<'a> {
         word: Word<'a>,
         edition: Edition,
     ) -> Result<(), Failure<Trouble>>
-        ensures { OnOk result (AddsCrate self.old word.entry edition self.new) }
+        ensures added { OnOk result (AddsCrate self.old word.entry edition self.new) }
+        ensures refused { OnRefused result (NoReader (AddsCrate self.old word.entry edition)) }
     {
         self.list_name(word)?;
         let krate = CrateId(row_number(word, self.firmware.crates.len())?);
@@ -84,7 +90,8 @@ impl<'a> Reader<'a> {
         word: Word<'a>,
         raw: RawVisibility<'a>,
     ) -> Result<(), Failure<Trouble>>
-        ensures { OnOk result (AddsInner self.old word.entry raw.entry self.new) }
+        ensures added { OnOk result (AddsInner self.old word.entry raw.entry self.new) }
+        ensures refused { OnRefused result (NoReader (AddsInner self.old word.entry raw.entry)) }
     {
         let (outer, name) = split(word)?;
         self.list_name(name)?;
@@ -102,7 +109,8 @@ impl<'a> Reader<'a> {
     }
 
     pub(crate) fn add_block(&mut self, word: Word<'a>) -> Result<(), Failure<Trouble>>
-        ensures { OnOk result (AddsBlock self.old word.entry self.new) }
+        ensures added { OnOk result (AddsBlock self.old word.entry self.new) }
+        ensures refused { OnRefused result (NoReader (AddsBlock self.old word.entry)) }
     {
         let (outer, name) = split(word)?;
         self.list_name(name)?;

@@ -1,7 +1,7 @@
 // A file that declares nothing yet.
 ghost use Rattle.std.specs.Prelude.{◌≡◌, [], IfOk};
 ghost use Rattle.file_reader.specs.Nothing.{Undefined, Untold, TellsNothing};
-ghost use Rattle.file_reader.specs.Tables.{rows};
+ghost use Rattle.file_reader.specs.Told.{rows};
 
 use firmware::definitions::Definitions;
 use firmware::file::Firmware;

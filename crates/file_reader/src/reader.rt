@@ -2,7 +2,8 @@
 ghost use Rattle.std.specs.Prelude.{IfOk, OnOk};
 ghost use Rattle.file_reader.specs.Adding.{Adds};
 ghost use Rattle.file_reader.specs.Nothing.{IsNew};
-ghost use Rattle.file_reader.specs.Reading.{ReadsLine, Reads};
+ghost use Rattle.file_reader.specs.Reading.{ReadsLine, Reads, RefusesFile, RefusesLine};
+ghost use Rattle.file_reader.specs.Refusals.{NoReader, OnRefused};
 
 use crate::models::below_a_model;
 use crate::nothing::nothing;
@@ -52,7 +53,8 @@ impl<'a> Reader<'a> {
 
     // Adds what a statement tells.
     fn add(&mut self, statement: Statement<'a>) -> Result<(), Failure<Trouble>>
-        ensures { OnOk result (Adds statement.entry self.old self.new) }
+        ensures added { OnOk result (Adds statement.entry self.old self.new) }
+        ensures refused { OnRefused result (NoReader (Adds statement.entry self.old)) }
     {
         match statement {
             Statement::Crate(name, edition) => self.add_crate(name, edition),
@@ -81,7 +83,8 @@ impl<'a> Reader<'a> {
 
     // Adds what the line of that number tells.
     fn take_line(&mut self, line: &'a [u8], number: usize) -> Result<(), Failure<Trouble>>
-        ensures { OnOk result (ReadsLine line.now self.old self.new) }
+        ensures read { OnOk result (ReadsLine line.now self.old self.new) }
+        ensures refused { OnRefused result (RefusesLine line.now self.old) }
     {
         let Some((verb, statement)) = Statement::of(StatementWords::of(line, number))? else {
             return Ok(());
@@ -95,7 +98,8 @@ impl<'a> Reader<'a> {
 
 /// Reads a whole file, or says what is wrong with its first bad line.
 pub fn read_firmware<'a>(alloc: Global, text: &'a [u8]) -> Result<Firmware<'a>, Failure<Trouble>>
-    ensures { IfOk result (Reads text.now) }
+    ensures read { IfOk result (Reads text.now) }
+    ensures refused { OnRefused result (RefusesFile text.now) }
 {
     let mut reader = Reader::new(alloc)?;
     for (i, line) in text.split(|b| *b == b'\n').enumerate() {

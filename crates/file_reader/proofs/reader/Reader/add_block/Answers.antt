@@ -2,7 +2,7 @@ use Rattle.std.proofs.Common.{rules, refl, sym, subst, ◌≡◌, List, [], ◌�
 use Rattle.std.specs.Borrow.{Bor}
 use Rattle.std.specs.BTreeMap.{BTreeMap}
 use Rattle.std.specs.Prelude.{ℕ}
-use Rattle.file_reader.specs.Tables.{Told, told_by}
+use Rattle.file_reader.specs.Told.{Told, told_by}
 use Rattle.file_reader.specs.declared.reader.Known.{Known}
 use Rattle.firmware.specs.declared.definitions.Definitions.{Definitions}
 use Rattle.nameres.specs.declared.tree_rows.BlockRow.{BlockRow}
@@ -26,8 +26,8 @@ named t b m k s r z e =
     subst (λ (x : Told). x ≡ record t { names = x.names; above = x.above; definitions = x.definitions; modules = r; blocks = z }) (sym e) refl
 
 -- src/modules.rt:104:5
-pub returns : goal.returns
-returns c = (
+pub returns-clause-added : goal.returns-clause-added
+returns-clause-added c = (
   c.in_ok-outer.outer,
   c.in_ok-outer.name,
   c.in_ok-outside.outside,
@@ -37,8 +37,11 @@ returns c = (
   search rules,
   search rules,
   search rules,
+  search rules,
+  search rules,
+  search rules,
   refl,
   search rules,
   named (told_by c.args.self.now) _ _ _ _ _ _
-      (joined (told_by c.args.self.now) _ _ _ _ _ _ _ (record { root = record { 0 = c.in_ok-row_number-2.field-0 }; outside = c.in_ok-outside.outside.id }) _ c.list_name.ensures.told c.in_ok-add_module.ensures.1 (search rules) (search rules)),
+      (joined (told_by c.args.self.now) _ _ _ _ _ _ _ (record { root = record { 0 = c.in_ok-row_number-2.field-0 }; outside = c.in_ok-outside.outside.id }) _ c.list_name.ensures.told c.in_ok-add_module.ensures.added.1 (search rules) (search rules)),
 )

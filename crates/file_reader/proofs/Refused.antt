@@ -1,0 +1,52 @@
+-- What a refusal comes to.
+use Rattle.std.proofs.Common.{◌≡◌, ◌≢◌, false, inl, inr, Ok, Err, Result, vec_items, [], List, ℕ}
+use Rattle.std.specs.Borrow.{Bor}
+use Rattle.std.specs.BTreeMap.{BTreeMap}
+use Rattle.entries.specs.declared.visibility.Visibility.{Visibility}
+use Rattle.entries.specs.declared.visibility.Visibility.TheVariants as vis
+use Rattle.entries.specs.declared.visibility.VisibilityExplicitness.TheVariants.{Explicit, Implicit}
+use Rattle.file_reader.specs.Reading.{MayFollow}
+use Rattle.file_reader.specs.Refusals.{OnRefused}
+use Rattle.file_reader.specs.Statements.{Names, Tells}
+use Rattle.file_reader.specs.declared.reader.Known.{Known}
+use Rattle.file_reader.specs.declared.reader.Reader.{Reader}
+use Rattle.hir_def.specs.declared.ModuleId.{ModuleId}
+use Rattle.hir_def.specs.declared.fault.Failure.{Failure}
+use Rattle.hir_def.specs.declared.fault.Failure.TheVariants.{Memory, Refused}
+use Rattle.source_text.specs.declared.words.Word.{Word}
+use Rattle.statements.specs.Spelling.{stands_below_models}
+use Rattle.statements.specs.declared.clauses.RawVisibility.TheVariants as raw
+use Rattle.statements.specs.declared.statement.Statement.{Statement}
+
+-- what holds whatever the outcome is
+pub on_refused : {T R P : Type 0} (r : Result T (Failure R)) → P → OnRefused r P
+on_refused (Ok x) p = tt
+on_refused (Err (Memory e)) p = tt
+on_refused (Err (Refused f)) p = p
+
+-- what follows where a call refuses
+pub then_refused : {T R P Q : Type 0} (r : Result T (Failure R)) → (P → Q) → OnRefused r P → OnRefused r Q
+then_refused (Ok x) f h = tt
+then_refused (Err (Memory e)) f h = tt
+then_refused (Err (Refused r)) f h = f h
+
+-- a failure is passed on as it is
+pub passed : {T U R P Q : Type 0} (r : Result T (Failure R)) (s : Result U (Failure R)) (e : Failure R)
+    → r ≡ Err e → s ≡ Err e → (P → Q) → OnRefused r P → OnRefused s Q
+passed (Ok x) s e h k f p = absurd (cc)
+passed (Err a) (Ok x) e h k f p = tt
+passed (Err a) (Err (Memory m)) e h k f p = tt
+passed (Err (Memory n)) (Err (Refused d)) e h k f p = absurd (cc)
+passed (Err (Refused b)) (Err (Refused d)) e h k f p = f p
+
+-- where no module is named, no visibility is told
+pub none_told : (above : BTreeMap (Bor (List ℕ)) Known) (at : Known) (w : Word) → ((m : ModuleId) → ¬ (Names above w.text.now m)) → (v : Visibility) → ¬ (Tells above at (raw.In w) v)
+none_told above at w none (vis.Module m Explicit) h = none m h
+none_told above at w none (vis.Module m Implicit) h = h
+none_told above at w none vis.Public h = h
+none_told above at w none (vis.PubCrate c) h = h
+
+-- a statement of the tree below a model
+pub may_not_follow : (s : Statement) (r : Reader) → vec_items r.firmware.models ≢ [] → stands_below_models s ≡ false → ¬ (MayFollow s r)
+may_not_follow s r some never (inl h) = some h
+may_not_follow s r some never (inr h) = cc
