@@ -11,7 +11,7 @@ use Rattle.entries.specs.declared.per_ns.PerNs.{PerNs}
 use Rattle.entries.specs.declared.visibility.Visibility.{Visibility}
 use Rattle.entries.specs.declared.visibility.Visibility.TheVariants.{Public}
 use Rattle.file_reader.specs.Models.{part_of, parts_seen}
-use Rattle.file_reader.specs.Statements.{known_of}
+use Rattle.file_reader.specs.Statements.{crate_of, known_of}
 use Rattle.file_reader.specs.declared.reader.Known.{Known}
 use Rattle.file_reader.specs.declared.reader.Reader.{Reader}
 use Rattle.firmware.specs.contracts.pile.PartOrd.TheImpl.{cmp-value as part_cmp}
@@ -23,6 +23,8 @@ use Rattle.hir_def.specs.declared.MacroId.{MacroId}
 use Rattle.hir_def.specs.declared.ModuleDefId.{ModuleDefId}
 use Rattle.hir_def.specs.declared.ModuleDefId.TheVariants as def
 use Rattle.statements.specs.Names.{colons, last_colons}
+use Rattle.statements.specs.declared.kinds.Bringing.{Bringing}
+use Rattle.statements.specs.declared.kinds.Bringing.TheVariants as bringing
 
 -- what stands before the last `::` of a full name and the name after it, in a part of the file
 abbrev pub Key : Type 0
@@ -96,3 +98,8 @@ enum_in e = option_and_then (λ it. option_map (λ n. (n, it.vis)) (as_enum it.d
 -- the enum of that full name
 abbrev pub enum_meant : Above → List ℕ → Option (EnumId × Visibility)
 enum_meant a full = option_and_then enum_in (meaning a full)
+
+-- what an import of that kind brings: of an extern crate the root of the crate, else what the full name means
+abbrev pub imported : Above → Bringing → List ℕ → Option PerNs
+imported a bringing.ExternCrate full = option_map (λ c. of_types (def.ModuleId c.1) Public None) (crate_of a.modules full)
+imported a b full = meaning a full

@@ -3,9 +3,9 @@ ghost use Rattle.std.specs.Prelude.{◌≡◌, ◌++◌, ◌∷◌, [], IfOk, On
 ghost use Rattle.std.specs.Result.{result_ok};
 ghost use Rattle.file_reader.specs.Definitions.{Grows, Keeps, items_of};
 ghost use Rattle.firmware.specs.declared.definition.Standing.TheVariants.{Place};
-ghost use Rattle.file_reader.specs.FullNames.{declared_above, enum_in, enum_meant, macro_meant};
-ghost use Rattle.file_reader.specs.Statements.{imports_of};
-ghost use Rattle.file_reader.specs.Tables.{Brings, defined_as, Defines, AddsDefinition, AddsExternPrelude, AddsImport, AddsLegacy, AddsLegacyOf, AddsMacroUse, AddsPrelude, AddsVariant, IsCrate, IsMap};
+ghost use Rattle.file_reader.specs.FullNames.{declared_above, enum_in, enum_meant, imported, macro_meant};
+ghost use Rattle.file_reader.specs.Statements.{crate_of, imports_of};
+ghost use Rattle.file_reader.specs.Tables.{defined_as, Defines, AddsDefinition, AddsExternPrelude, AddsImport, AddsLegacy, AddsLegacyOf, AddsMacroUse, AddsPrelude, AddsVariant, IsMap};
 ghost use Rattle.file_reader.specs.Told.{rows};
 
 use crate::reader::Reader;
@@ -120,7 +120,7 @@ impl<'a> Reader<'a> {
     }
 
     fn crate_of(&self, word: Word<'a>) -> Result<(CrateId, ModuleId), Complaint>
-        ensures { IfOk result (IsCrate self.now.by_name word.entry.text.now) }
+        ensures { result_ok result ≡ crate_of self.now.by_name word.entry.text.now }
     {
         let known = self.known(word)?;
         match known.root_of {
@@ -260,7 +260,7 @@ impl<'a> Reader<'a> {
 
     // What an import of that kind brings by a full name.
     fn imported(&self, bringing: Bringing, full: Word<'a>) -> Result<PerNs, Complaint>
-        ensures { IfOk result (Brings self.now bringing full.entry.text.now) }
+        ensures { result_ok result ≡ imported (declared_above self.now) bringing full.entry.text.now }
     {
         match bringing {
             Bringing::ExternCrate => {
