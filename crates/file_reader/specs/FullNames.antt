@@ -65,7 +65,7 @@ pub record Above : Type 0 where
 abbrev pub declared_above : Reader → Above
 declared_above r = record { modules = r.by_name; declared = r.declared; models = vec_items r.firmware.models }
 
--- what is declared above with a full name and a kind, as far as the next statement sees it
+-- what is declared with a full name and a kind in the parts that the next statement sees
 abbrev pub entries_above : Above → List ℕ → List ℕ → PerNs
 entries_above a within name = declared_in_all a.declared (parts_seen a.models) within name
 
@@ -73,11 +73,11 @@ entries_above a within name = declared_in_all a.declared (parts_seen a.models) w
 abbrev pub of_module : Known → PerNs
 of_module k = of_types (def.ModuleId k.id) Public None
 
--- the entries, where there is one
+-- the entries, where there are any
 abbrev pub unless_nothing : PerNs → Option PerNs
 unless_nothing e = if is_nothing e then None else Some e
 
--- What a full name means. With no `::` it is a crate that is declared above. Else it is what the base and the models of the last one's pile declare with it.
+-- What a full name means, if anything. With no `::` it is the root of a crate that is declared above, and else what is declared above with it and a kind.
 unfoldable pub meaning : Above → List ℕ → Option PerNs
 meaning a full =
     option_map_or (λ k. unless_nothing (entries_above a (take k full) (drop (k + length colons) full))) (last_colons full)
