@@ -11,7 +11,7 @@ use Rattle.entries.specs.declared.per_ns.PerNs.{PerNs}
 use Rattle.entries.specs.declared.visibility.Visibility.{Visibility}
 use Rattle.entries.specs.declared.visibility.Visibility.TheVariants.{Public}
 use Rattle.file_reader.specs.Models.{part_of, parts_seen}
-use Rattle.file_reader.specs.Statements.{known_of}
+use Rattle.file_reader.specs.Statements.{crate_of, known_of}
 use Rattle.file_reader.specs.declared.reader.Known.{Known}
 use Rattle.file_reader.specs.declared.reader.Reader.{Reader}
 use Rattle.firmware.specs.contracts.pile.PartOrd.TheImpl.{cmp-value as part_cmp}
@@ -23,6 +23,8 @@ use Rattle.hir_def.specs.declared.MacroId.{MacroId}
 use Rattle.hir_def.specs.declared.ModuleDefId.{ModuleDefId}
 use Rattle.hir_def.specs.declared.ModuleDefId.TheVariants as def
 use Rattle.statements.specs.Names.{colons, last_colons}
+use Rattle.statements.specs.declared.kinds.Bringing.{Bringing}
+use Rattle.statements.specs.declared.kinds.Bringing.TheVariants as bringing
 
 -- what stands before the last `::` of a full name and the name after it, in a part of the file
 abbrev pub Key : Type 0
@@ -63,7 +65,7 @@ pub record Above : Type 0 where
 abbrev pub declared_above : Reader → Above
 declared_above r = record { modules = r.by_name; declared = r.declared; models = vec_items r.firmware.models }
 
--- what is declared above with a full name and a kind, as far as the next statement sees it
+-- what is declared with a full name and a kind in the parts that the next statement sees
 abbrev pub entries_above : Above → List ℕ → List ℕ → PerNs
 entries_above a within name = declared_in_all a.declared (parts_seen a.models) within name
 
@@ -71,11 +73,11 @@ entries_above a within name = declared_in_all a.declared (parts_seen a.models) w
 abbrev pub of_module : Known → PerNs
 of_module k = of_types (def.ModuleId k.id) Public None
 
--- the entries, where there is one
+-- the entries, where there are any
 abbrev pub unless_nothing : PerNs → Option PerNs
 unless_nothing e = if is_nothing e then None else Some e
 
--- What a full name means. With no `::` it is a crate that is declared above. Else it is what the base and the models of the last one's pile declare with it.
+-- What a full name means, if anything. With no `::` it is the root of a crate that is declared above, and else what is declared above with it and a kind.
 unfoldable pub meaning : Above → List ℕ → Option PerNs
 meaning a full =
     option_map_or (λ k. unless_nothing (entries_above a (take k full) (drop (k + length colons) full))) (last_colons full)
@@ -96,3 +98,8 @@ enum_in e = option_and_then (λ it. option_map (λ n. (n, it.vis)) (as_enum it.d
 -- the enum of that full name
 abbrev pub enum_meant : Above → List ℕ → Option (EnumId × Visibility)
 enum_meant a full = option_and_then enum_in (meaning a full)
+
+-- what an import of that kind brings: of an extern crate the root of the crate, else what the full name means
+abbrev pub imported : Above → Bringing → List ℕ → Option PerNs
+imported a bringing.ExternCrate full = option_map (λ c. of_types (def.ModuleId c.1) Public None) (crate_of a.modules full)
+imported a b full = meaning a full

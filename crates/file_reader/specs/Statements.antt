@@ -1,9 +1,9 @@
 -- What the statements of visibilities and imports tell.
-use Rattle.std.specs.Prelude.{◌≡◌, ℕ, ◌⊎◌, ◌<◌, ◌^◌, List, ◌++◌, map, codes, decimal, Option, Some, vec_items}
+use Rattle.std.specs.Prelude.{◌≡◌, ℕ, ◌⊎◌, ◌<◌, ◌^◌, List, ◌++◌, map, codes, decimal, Option, Some, None, vec_items}
 use Rattle.std.specs.Borrow.{Bor}
 use Rattle.std.specs.BTreeMap.{BTreeMap, get_by}
 use Rattle.std.specs.Cmp.Lexicographic.{slice_cmp}
-use Rattle.std.specs.Option.{option_map}
+use Rattle.std.specs.Option.{option_and_then, option_map}
 use Rattle.std.specs.Ordering.{nat_cmp}
 use Rattle.entries.specs.declared.per_ns.PerNs.{PerNs}
 use Rattle.entries.specs.declared.visibility.Visibility.{Visibility}
@@ -14,8 +14,11 @@ use Rattle.file_reader.specs.declared.reader.Reader.{Reader}
 use Rattle.firmware.specs.declared.definition.Definition.{Definition}
 use Rattle.firmware.specs.declared.definitions.Definitions.{Definitions}
 use Rattle.firmware.specs.declared.file.DeliveryStatement.{DeliveryStatement}
+use Rattle.hir_def.specs.declared.CrateId.{CrateId}
 use Rattle.hir_def.specs.declared.ModuleId.{ModuleId}
 use Rattle.hir_def.specs.declared.import.ImportOrExternCrate.{ImportOrExternCrate}
+use Rattle.item_scope.specs.declared.index_data.DefMapId.{DefMapId}
+use Rattle.item_scope.specs.declared.index_data.DefMapId.TheVariants as map_id
 use Rattle.statements.specs.declared.clauses.RawVisibility.{RawVisibility}
 use Rattle.statements.specs.declared.clauses.RawVisibility.TheVariants as raw
 use Rattle.statements.specs.declared.kinds.Bringing.{Bringing}
@@ -24,6 +27,14 @@ use Rattle.statements.specs.declared.kinds.Bringing.TheVariants as bringing
 -- the module that is declared above with that full name
 abbrev pub known_of : BTreeMap (Bor (List ℕ)) Known → List ℕ → Option Known
 known_of above w = get_by (λ k. slice_cmp nat_cmp w k.now) above
+
+abbrev pub as_crate : Option DefMapId → Option CrateId
+as_crate (Some (map_id.Crate c)) = Some c
+as_crate m = None
+
+-- the crate that is declared above with that name, and its root
+abbrev pub crate_of : BTreeMap (Bor (List ℕ)) Known → List ℕ → Option (CrateId × ModuleId)
+crate_of above w = option_and_then (λ k. option_map (λ c. (c, k.id)) (as_crate k.root_of)) (known_of above w)
 
 -- a module by `#` and its number of 32 bits, or by a full name that is declared above
 abbrev pub Names : BTreeMap (Bor (List ℕ)) Known → List ℕ → ModuleId → Type 0

@@ -12,10 +12,10 @@ use Rattle.entries.specs.declared.visibility.Visibility.{Visibility}
 use Rattle.entries.specs.declared.visibility.Visibility.TheVariants.{Public}
 use Rattle.file_reader.specs.declared.reader.Known.{Known}
 use Rattle.file_reader.specs.declared.reader.Reader.{Reader}
-use Rattle.file_reader.specs.FullNames.{DeclaresAs, declared_above, meaning, macro_meant, enum_meant}
+use Rattle.file_reader.specs.FullNames.{DeclaresAs, declared_above, enum_meant, imported, macro_meant}
 use Rattle.file_reader.specs.Models.{model_by_name, pile_of}
 use Rattle.file_reader.specs.Refusals.{IsListable, IsRowNumber}
-use Rattle.file_reader.specs.Statements.{known_of, Tells, deliveries, imports_of}
+use Rattle.file_reader.specs.Statements.{crate_of, known_of, Tells, deliveries, imports_of}
 use Rattle.file_reader.specs.Told.{told_by, item_told, rows}
 use Rattle.firmware.specs.Models.{reached}
 use Rattle.firmware.specs.declared.definition.Definition.{Definition}
@@ -42,7 +42,6 @@ use Rattle.statements.specs.Names.{Parts}
 use Rattle.statements.specs.declared.clauses.RawVisibility.{RawVisibility}
 use Rattle.statements.specs.declared.clauses.Site.{Site}
 use Rattle.statements.specs.declared.kinds.Bringing.{Bringing}
-use Rattle.statements.specs.declared.kinds.Bringing.TheVariants as bringing
 use Rattle.statements.specs.declared.kinds.ItemKind.{ItemKind}
 use Rattle.statements.specs.declared.kinds.ItemKind.TheVariants as kind
 use Rattle.statements.specs.declared.kinds.Shape.{Shape}
@@ -140,10 +139,6 @@ IsMap above w m = option_map (λ k. k.root_of) (known_of above w) ≡ Some (Some
 abbrev pub IsModule : BTreeMap (Bor (List ℕ)) Known → List ℕ → ModuleId → Type 0
 IsModule above w m = option_map (λ k. k.id) (known_of above w) ≡ Some m
 
--- the crate of that name, and its root
-abbrev pub IsCrate : BTreeMap (Bor (List ℕ)) Known → List ℕ → CrateId × ModuleId → Type 0
-IsCrate above w c = IsMap above w (map_id.Crate c.0) × IsModule above w c.1
-
 -- the number of a name in a list
 abbrev pub IsNumber : List (List ℕ) → List ℕ → Name → Type 0
 IsNumber names w n = as_name (first names w 0) ≡ Some n
@@ -226,8 +221,8 @@ AddsExternPrelude old name krate meant new =
     (n : Name) × (of : CrateId × ModuleId) × (to : CrateId × ModuleId)
     × IsListable name.text.now
     × IsNumber new.firmware.list name.text.now n
-    × IsCrate old.by_name krate.text.now of
-    × IsCrate old.by_name meant.text.now to
+    × (crate_of old.by_name krate.text.now ≡ Some of)
+    × (crate_of old.by_name meant.text.now ≡ Some to)
     × (told_by new ≡ record (told_by old) {
       names = new.firmware.list;
       extern_prelude = rows old.firmware.tables.extern_prelude ++ record { key = record { krate = of.0; name = n }; value = record { «module» = to.1; extern_crate = None } } ∷ [];
@@ -284,11 +279,6 @@ AddsLegacyOf old name m meant new =
       legacy = rows old.firmware.tables.legacy ++ record { key = record { at = at; name = n }; value = d } ∷ [];
     })
 
--- what an import brings: of an extern crate the root of the crate, else what the full name means
-abbrev pub Brings : Reader → Bringing → List ℕ → PerNs → Type 0
-Brings old bringing.ExternCrate full e = (c : CrateId × ModuleId) × IsCrate old.by_name full c × (e ≡ of_types (def.ModuleId c.1) Public None)
-Brings old b full e = meaning (declared_above old) full ≡ Some e
-
 -- An import makes one more delivery, to the module where it stands. Its import is the statement's turn among those of its word, and
 -- all that it brings is as visible as the statement tells.
 abbrev pub Imports : Reader → Bringing → Word → Site → Reader → Type 0
@@ -296,7 +286,7 @@ Imports old b full s new =
     (at : Known) × (v : Visibility) × (e : PerNs)
     × (known_of old.by_name s.«module».text.now ≡ Some at)
     × Tells old.by_name at s.vis v
-    × Brings old b full.text.now e
+    × (imported (declared_above old) b full.text.now ≡ Some e)
     × IsListable s.name.text.now × IsUtf8 s.«module».text.now × IsRowNumber (length (imports_of old.firmware.definitions b))
     × (deliveries new ≡ deliveries old ++ (at.id, (with_visibility v e, Some (import_of b (length (imports_of old.firmware.definitions b))))) ∷ [])
 
@@ -326,7 +316,7 @@ AddsVariant old w shape new =
 -- A model of that name begins a part of the file. It is the only one of its name, by which it is found from then on. It stands alone, or over the model that is named.
 abbrev pub AddsModel : Reader → Word → Option Word → Reader → Type 0
 AddsModel old w below new =
-    (m : Model) × (m.name.now ≡ w.text.now) × (m.began ≡ reached old.firmware)
+    (m : Model) × (m.name.now ≡ w.text.now) × (m.line ≡ w.line) × (m.began ≡ reached old.firmware)
     × IsUtf8 w.text.now
     × (model_by_name old.model_numbers w.text.now ≡ None)
     × (pile_of old.model_numbers (vec_items old.firmware.models) below (length (vec_items old.firmware.models)) ≡ Some m.pile)

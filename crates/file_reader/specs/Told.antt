@@ -39,7 +39,8 @@ rows t = vec_items t.rows
 abbrev pub item_told : Declared → List ℕ × (List ℕ × Visibility)
 item_told d = (d.name.now, (d.«module».now, d.vis))
 
--- what a file tells as far as it is read: its names, the modules that are declared above and what else is with a kind, its definitions, the rows of its tables, its items, deliveries, paths and models, and the models by their names
+-- what a file tells as far as it is read: its names, the modules that are declared above and what is with a kind, its definitions, the
+-- rows of its tables, its items, deliveries, paths and models, and the models' numbers by their names
 pub record Told : Type 0 where
   pub names : List (List ℕ)
   pub above : BTreeMap (Bor (List ℕ)) Known

@@ -3,14 +3,11 @@ ghost use Rattle.std.specs.Prelude.{◌≡◌, ◌++◌, ◌∷◌, [], IfOk, Ma
 ghost use Rattle.std.specs.Result.{result_ok};
 ghost use Rattle.file_reader.specs.Definitions.{Grows, Keeps, items_of};
 ghost use Rattle.firmware.specs.declared.definition.Standing.TheVariants.{Place};
-ghost use Rattle.file_reader.specs.FullNames.{declared_above, enum_in, enum_meant, macro_meant};
+ghost use Rattle.file_reader.specs.FullNames.{declared_above, enum_in, enum_meant, imported, macro_meant};
 ghost use Rattle.file_reader.specs.Refusals.{NoReader, OnRefused};
-ghost use Rattle.file_reader.specs.Statements.{imports_of};
-ghost use Rattle.file_reader.specs.Tables.{Brings, defined_as, Defines, AddsDefinition, AddsExternPrelude, AddsImport, AddsLegacy, AddsLegacyOf, AddsMacroUse, AddsPrelude, AddsVariant, IsCrate, IsMap, MayDefine};
+ghost use Rattle.file_reader.specs.Statements.{crate_of, imports_of};
+ghost use Rattle.file_reader.specs.Tables.{defined_as, Defines, AddsDefinition, AddsExternPrelude, AddsImport, AddsLegacy, AddsLegacyOf, AddsMacroUse, AddsPrelude, AddsVariant, IsMap, MayDefine};
 ghost use Rattle.file_reader.specs.Told.{rows};
-ghost use Rattle.entries.specs.declared.per_ns.PerNs.{PerNs};
-ghost use Rattle.hir_def.specs.declared.CrateId.{CrateId};
-ghost use Rattle.hir_def.specs.declared.ModuleId.{ModuleId};
 ghost use Rattle.item_scope.specs.declared.index_data.DefMapId.{DefMapId};
 
 use crate::reader::Reader;
@@ -125,8 +122,7 @@ impl<'a> Reader<'a> {
     }
 
     fn crate_of(&self, word: Word<'a>) -> Result<(CrateId, ModuleId), Complaint>
-        ensures { MatchResult result (IsCrate self.now.by_name word.entry.text.now)
-            (λ _. (c : CrateId × ModuleId) → ¬ (IsCrate self.now.by_name word.entry.text.now c)) }
+        ensures { result_ok result ≡ crate_of self.now.by_name word.entry.text.now }
     {
         let known = self.known(word)?;
         match known.root_of {
@@ -273,8 +269,7 @@ impl<'a> Reader<'a> {
 
     // What an import of that kind brings by a full name.
     fn imported(&self, bringing: Bringing, full: Word<'a>) -> Result<PerNs, Complaint>
-        ensures { MatchResult result (Brings self.now bringing full.entry.text.now)
-            (λ _. (e : PerNs) → ¬ (Brings self.now bringing full.entry.text.now e)) }
+        ensures { result_ok result ≡ imported (declared_above self.now) bringing full.entry.text.now }
     {
         match bringing {
             Bringing::ExternCrate => {
