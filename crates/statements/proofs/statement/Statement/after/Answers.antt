@@ -117,6 +117,36 @@ returns-in_ok-name-in-text-4-clause-spelt c =
     let verb = its_word _ _ c.text_or_nothing.ensures (codes "extern-prelude") refl c.in-text-4.is in
     (verb, c.in_ok-name-in-text-4.ensures.meaning)
 
+pub returns-in_ok-name-in-text-5-clause-spelt : goal.returns-in_ok-name-in-text-5-clause-spelt
+returns-in_ok-name-in-text-5-clause-spelt c =
+    let verb = its_word _ _ c.text_or_nothing.ensures (codes "macro-use") refl c.in-text-5.is in
+    (verb, c.in_ok-name-in-text-5.ensures.meaning)
+
+pub returns-in_ok-name-in-text-clause-spelt : goal.returns-in_ok-name-in-text-clause-spelt
+returns-in_ok-name-in-text-clause-spelt c =
+    let verb = its_word _ _ c.text_or_nothing.ensures (codes "legacy-macro") refl c.in-text.is in
+    (verb, c.in_ok-name-in-text.ensures.legacy)
+
+pub returns-in_ok-name-in-model-clause-spelt : goal.returns-in_ok-name-in-model-clause-spelt
+returns-in_ok-name-in-model-clause-spelt c =
+    let verb = its_word _ _ c.text_or_nothing.ensures (codes "model") refl c.in-model.is in
+    (verb, c.in_ok-name-in-model.ensures.model)
+
+pub returns-in_ok-full-in-use-clause-spelt : goal.returns-in_ok-full-in-use-clause-spelt
+returns-in_ok-full-in-use-clause-spelt c =
+    let verb = its_word _ _ c.text_or_nothing.ensures (codes "use") refl c.in-use.is in
+    (verb, c.in_ok-full-in-use.ensures.import)
+
+pub returns-in_ok-full-in-text-2-clause-spelt : goal.returns-in_ok-full-in-text-2-clause-spelt
+returns-in_ok-full-in-text-2-clause-spelt c =
+    let verb = its_word _ _ c.text_or_nothing.ensures (codes "use-glob") refl c.in-text-2.is in
+    (verb, c.in_ok-full-in-text-2.ensures.import)
+
+pub returns-in_ok-full-in-text-3-clause-spelt : goal.returns-in_ok-full-in-text-3-clause-spelt
+returns-in_ok-full-in-text-3-clause-spelt c =
+    let verb = its_word _ _ c.text_or_nothing.ensures (codes "extern-crate") refl c.in-text-3.is in
+    (verb, c.in_ok-full-in-text-3.ensures.import)
+
 pub returns-in_default-clause-refused : goal.returns-in_default-clause-refused
 returns-in_default-clause-refused c =
     let n = c.in_default in
