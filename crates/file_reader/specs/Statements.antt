@@ -5,7 +5,6 @@ use Rattle.std.specs.BTreeMap.{BTreeMap, get_by}
 use Rattle.std.specs.Cmp.Lexicographic.{slice_cmp}
 use Rattle.std.specs.Option.{option_and_then, option_map}
 use Rattle.std.specs.Ordering.{nat_cmp}
-use Rattle.entries.specs.declared.per_ns.PerNs.{PerNs}
 use Rattle.entries.specs.declared.visibility.Visibility.{Visibility}
 use Rattle.entries.specs.declared.visibility.Visibility.TheVariants as vis
 use Rattle.entries.specs.declared.visibility.VisibilityExplicitness.TheVariants.{Explicit, Implicit}
@@ -13,10 +12,9 @@ use Rattle.file_reader.specs.declared.reader.Known.{Known}
 use Rattle.file_reader.specs.declared.reader.Reader.{Reader}
 use Rattle.firmware.specs.declared.definition.Definition.{Definition}
 use Rattle.firmware.specs.declared.definitions.Definitions.{Definitions}
-use Rattle.firmware.specs.declared.file.DeliveryStatement.{DeliveryStatement}
 use Rattle.hir_def.specs.declared.CrateId.{CrateId}
 use Rattle.hir_def.specs.declared.ModuleId.{ModuleId}
-use Rattle.hir_def.specs.declared.import.ImportOrExternCrate.{ImportOrExternCrate}
+use Rattle.item_scope.specs.declared.delivery.Delivery.{Delivery}
 use Rattle.item_scope.specs.declared.index_data.DefMapId.{DefMapId}
 use Rattle.item_scope.specs.declared.index_data.DefMapId.TheVariants as map_id
 use Rattle.statements.specs.declared.clauses.RawVisibility.{RawVisibility}
@@ -59,10 +57,6 @@ imports_of d bringing.Named = vec_items d.imports
 imports_of d bringing.Glob = vec_items d.globs
 imports_of d bringing.ExternCrate = vec_items d.extern_crates
 
--- a delivery by who receives it, its entries and its import
-abbrev pub told : DeliveryStatement → ModuleId × (PerNs × Option ImportOrExternCrate)
-told d = (d.delivery.receiver, (d.delivery.entries, d.delivery.import))
-
 -- the deliveries of the file as far as it is read
-abbrev pub deliveries : Reader → List (ModuleId × (PerNs × Option ImportOrExternCrate))
-deliveries r = map told (vec_items r.firmware.deliveries)
+abbrev pub deliveries : Reader → List Delivery
+deliveries r = map (λ d. d.delivery) (vec_items r.firmware.deliveries)

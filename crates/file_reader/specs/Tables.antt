@@ -29,6 +29,7 @@ use Rattle.hir_def.specs.declared.ModuleDefId.TheVariants as def
 use Rattle.hir_def.specs.declared.ModuleId.{ModuleId}
 use Rattle.hir_def.specs.declared.Name.{Name}
 use Rattle.hir_def.specs.declared.edition.Edition.{Edition}
+use Rattle.hir_def.specs.declared.import.ImportOrExternCrate.{ImportOrExternCrate}
 use Rattle.item_scope.specs.declared.index_data.CallStyles.{CallStyles}
 use Rattle.item_scope.specs.declared.index_data.DefMapId.{DefMapId}
 use Rattle.item_scope.specs.declared.index_data.DefMapId.TheVariants as map_id
@@ -59,6 +60,19 @@ abbrev pub AddsPath : Reader → Word → Option Asking → Reader → Type 0
 AddsPath old path asking new =
     (q : Option Question) × Asks old.by_name asking q
     × (told_by new ≡ record (told_by old) { paths = vec_items old.firmware.paths ++ path ∷ []; questions = vec_items old.firmware.questions ++ q ∷ [] })
+
+-- the number of a name in a list
+abbrev pub IsNumber : List (List ℕ) → List ℕ → Name → Type 0
+IsNumber names w n = as_name (first names w 0) ≡ Some n
+
+-- One more delivery is made: to that module, under the number of a name, of these entries, under that import.
+abbrev pub Delivers : Reader → ModuleId → Word → PerNs → Option ImportOrExternCrate → Reader → Type 0
+Delivers old m w e i new =
+    (n : Name) × IsNumber new.firmware.list w.text.now n
+    × (told_by new ≡ record (told_by old) {
+      names = new.firmware.list;
+      delivered = deliveries old ++ record { receiver = m; name = n; entries = e; import = i } ∷ [];
+    })
 
 -- An item may stand in a module that is declared above, with the visibility that is told there, where its name may be listed.
 abbrev pub MayStand : BTreeMap (Bor (List ℕ)) Known → Site → Known → Visibility → Type 0
@@ -109,10 +123,11 @@ Defines old k n new =
     (n ≡ length (defined_as old.firmware.definitions k))
     × (told_by new ≡ record (told_by old) { definitions = new.firmware.definitions; styles = vec_items old.firmware.tables.styles ++ styles_of k })
 
--- An item of a kind is delivered to the module in which it stands, and declared with its full name. It is what its kind and its turn make of it, as visible as is told.
+-- An item of a kind is delivered to the module in which it stands, under its name, and declared with its full name. It is what its kind and its turn make of it, as visible as is told.
 abbrev pub AddsDefinition : Reader → ItemKind → Site → Reader → Type 0
 AddsDefinition old k s new =
-    (at : Known) × (v : Visibility)
+    (at : Known) × (v : Visibility) × (n : Name)
+    × IsNumber new.firmware.list s.name.text.now n
     × IsListable s.name.text.now
     × MayDefine old.firmware.definitions k s.name s.«module»
     × (known_of old.by_name s.«module».text.now ≡ Some at)
@@ -123,7 +138,7 @@ AddsDefinition old k s new =
       declared = new.declared;
       definitions = new.firmware.definitions;
       items = map item_told (vec_items old.firmware.items) ++ (s.name.text.now, (s.«module».text.now, v)) ∷ [];
-      delivered = deliveries old ++ (at.id, (entries_of k (length (defined_as old.firmware.definitions k)) v, None)) ∷ [];
+      delivered = deliveries old ++ record { receiver = at.id; name = n; entries = entries_of k (length (defined_as old.firmware.definitions k)) v; import = None } ∷ [];
       styles = vec_items old.firmware.tables.styles ++ styles_of k;
     })
 
@@ -138,10 +153,6 @@ IsMap above w m = option_map (λ k. k.root_of) (known_of above w) ≡ Some (Some
 -- the module of a full name
 abbrev pub IsModule : BTreeMap (Bor (List ℕ)) Known → List ℕ → ModuleId → Type 0
 IsModule above w m = option_map (λ k. k.id) (known_of above w) ≡ Some m
-
--- the number of a name in a list
-abbrev pub IsNumber : List (List ℕ) → List ℕ → Name → Type 0
-IsNumber names w n = as_name (first names w 0) ≡ Some n
 
 -- A module may come in where none is declared above with its full name, which is text, and one more is counted with 32 bits.
 abbrev pub MayDeclare : Reader → Word → Type 0
@@ -180,8 +191,9 @@ AddsCrate old w edition new =
 -- A module stands in the crate and the block of the one around it, and is delivered to it and declared in it, as visible as is told.
 abbrev pub AddsInner : Reader → Word → RawVisibility → Reader → Type 0
 AddsInner old w raw new =
-    (outer : Word) × (name : Word) × (parent : Known) × (vis : Visibility) × (id : ModuleId) × (row : ModuleRow)
+    (outer : Word) × (name : Word) × (parent : Known) × (vis : Visibility) × (id : ModuleId) × (row : ModuleRow) × (n : Name)
     × IsSplit w.text.now outer name
+    × IsNumber new.firmware.list name.text.now n
     × IsListable name.text.now × IsUtf8 outer.text.now
     × (known_of old.by_name outer.text.now ≡ Some parent)
     × Tells old.by_name parent raw vis
@@ -194,7 +206,7 @@ AddsInner old w raw new =
       declared = new.declared;
       definitions = new.firmware.definitions;
       modules = vec_items old.firmware.modules ++ row ∷ [];
-      delivered = deliveries old ++ (parent.id, (of_types (def.ModuleId id) vis None, None)) ∷ [];
+      delivered = deliveries old ++ record { receiver = parent.id; name = n; entries = of_types (def.ModuleId id) vis None; import = None } ∷ [];
     })
 
 -- A block stands in the module around it, and has a root of its own, in that module's crate.
@@ -279,22 +291,21 @@ AddsLegacyOf old name m meant new =
       legacy = rows old.firmware.tables.legacy ++ record { key = record { at = at; name = n }; value = d } ∷ [];
     })
 
--- An import makes one more delivery, to the module where it stands. Its import is the statement's turn among those of its word, and
--- all that it brings is as visible as the statement tells.
-abbrev pub Imports : Reader → Bringing → Word → Site → Reader → Type 0
-Imports old b full s new =
-    (at : Known) × (v : Visibility) × (e : PerNs)
+-- An import makes one more delivery, to the module where it stands, under the name that it has there. Its import is the statement's turn
+-- among those of its word, and all that it brings is as visible as the statement tells.
+abbrev pub AddsImport : Reader → Bringing → Word → Site → Reader → Type 0
+AddsImport old b full s new =
+    (at : Known) × (v : Visibility) × (e : PerNs) × (n : Name)
+    × IsNumber new.firmware.list s.name.text.now n
     × (known_of old.by_name s.«module».text.now ≡ Some at)
     × Tells old.by_name at s.vis v
     × (imported (declared_above old) b full.text.now ≡ Some e)
     × IsListable s.name.text.now × IsUtf8 s.«module».text.now × IsRowNumber (length (imports_of old.firmware.definitions b))
-    × (deliveries new ≡ deliveries old ++ (at.id, (with_visibility v e, Some (import_of b (length (imports_of old.firmware.definitions b))))) ∷ [])
-
--- An import adds what it delivers, and a definition.
-abbrev pub AddsImport : Reader → Bringing → Word → Site → Reader → Type 0
-AddsImport old b full s new =
-    Imports old b full s new
-    × (told_by new ≡ record (told_by old) { names = new.firmware.list; definitions = new.firmware.definitions; delivered = deliveries new })
+    × (told_by new ≡ record (told_by old) {
+      names = new.firmware.list;
+      definitions = new.firmware.definitions;
+      delivered = deliveries old ++ record { receiver = at.id; name = n; entries = with_visibility v e; import = Some (import_of b (length (imports_of old.firmware.definitions b))) } ∷ [];
+    })
 
 -- A variant is of the enum that its full name begins with, and as visible. It is numbered by its turn among all that are counted with it. It is declared with its full name, and delivered nowhere.
 abbrev pub AddsVariant : Reader → Word → Shape → Reader → Type 0

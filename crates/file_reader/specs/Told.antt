@@ -2,7 +2,6 @@
 use Rattle.std.specs.Prelude.{ℕ, List, map, Option, vec_items}
 use Rattle.std.specs.Borrow.{Bor}
 use Rattle.std.specs.BTreeMap.{BTreeMap}
-use Rattle.entries.specs.declared.per_ns.PerNs.{PerNs}
 use Rattle.entries.specs.declared.visibility.Visibility.{Visibility}
 use Rattle.file_reader.specs.declared.reader.Known.{Known}
 use Rattle.file_reader.specs.declared.reader.Reader.{Reader}
@@ -14,11 +13,11 @@ use Rattle.firmware.specs.declared.models.Model.{Model}
 use Rattle.firmware.specs.declared.tables.RowsTold.{RowsTold}
 use Rattle.hir_def.specs.declared.MacroId.{MacroId}
 use Rattle.hir_def.specs.declared.ModuleId.{ModuleId}
-use Rattle.hir_def.specs.declared.import.ImportOrExternCrate.{ImportOrExternCrate}
 use Rattle.index_tables.specs.declared.keys.CrateName.{CrateName}
 use Rattle.index_tables.specs.declared.keys.EnumName.{EnumName}
 use Rattle.index_tables.specs.declared.keys.MapName.{MapName}
 use Rattle.index_tables.specs.declared.keys.ModuleName.{ModuleName}
+use Rattle.item_scope.specs.declared.delivery.Delivery.{Delivery}
 use Rattle.item_scope.specs.declared.index_data.CallStyles.{CallStyles}
 use Rattle.item_scope.specs.declared.index_data.DefMapId.{DefMapId}
 use Rattle.item_scope.specs.declared.index_data.EnumVariant.{EnumVariant}
@@ -50,7 +49,7 @@ pub record Told : Type 0 where
   pub blocks : List BlockRow
   pub crates : List CrateRow
   pub items : List (List ℕ × (List ℕ × Visibility))
-  pub delivered : List (ModuleId × (PerNs × Option ImportOrExternCrate))
+  pub delivered : List Delivery
   pub paths : List Word
   pub questions : List (Option Question)
   pub extern_prelude : List (Row CrateName ExternPrelude)

@@ -1,10 +1,10 @@
 // What statements of several kinds add to a file: names, items, deliveries and paths.
-ghost use Rattle.std.specs.Prelude.{◌≡◌, ◌++◌, ◌∷◌, [], IfOk, MatchResult, OnOk, Option};
+ghost use Rattle.std.specs.Prelude.{◌≡◌, IfOk, MatchResult, OnOk, Option};
 ghost use Rattle.std.specs.Str.{IsUtf8};
 ghost use Rattle.file_reader.specs.declared.reader.Known.{Known};
 ghost use Rattle.file_reader.specs.Refusals.{IsListable, NoReader, OnRefused};
-ghost use Rattle.file_reader.specs.Statements.{Names, Tells, deliveries};
-ghost use Rattle.file_reader.specs.Tables.{IsNumber, Asks, AddsPath, AddsItem, MayStand};
+ghost use Rattle.file_reader.specs.Statements.{Names, Tells};
+ghost use Rattle.file_reader.specs.Tables.{IsNumber, Asks, AddsPath, AddsItem, Delivers, MayStand};
 ghost use Rattle.file_reader.specs.Told.{told_by};
 ghost use Rattle.entries.specs.declared.visibility.Visibility.{Visibility};
 ghost use Rattle.hir_def.specs.declared.ModuleId.{ModuleId};
@@ -30,7 +30,6 @@ use troubles::trouble::Trouble;
 impl<'a> Reader<'a> {
     // The name of a statement, which the paths of the file may have, and its number.
     pub(crate) fn list_name(&mut self, word: Word<'a>) -> Result<(&'a str, Name), Failure<Trouble>>
-        ensures deliveries { deliveries self.new ≡ deliveries self.old }
         ensures told { told_by self.new ≡ record (told_by self.old) { names = self.new.firmware.list } }
         ensures numbered { IfOk result (λ p. IsNumber self.new.firmware.list word.entry.text.now p.1) }
         ensures named { IfOk result (λ p. p.0.now ≡ word.entry.text.now) }
@@ -52,8 +51,7 @@ impl<'a> Reader<'a> {
         entries: PerNs,
         import: Option<ImportOrExternCrate>,
     ) -> Result<(), Failure<Trouble>>
-        ensures deliveries { OnOk result (deliveries self.new ≡ deliveries self.old ++ (receiver, (entries, import)) ∷ []) }
-        ensures told { OnOk result (told_by self.new ≡ record (told_by self.old) { names = self.new.firmware.list; delivered = deliveries self.old ++ (receiver, (entries, import)) ∷ [] }) }
+        ensures told { OnOk result (Delivers self.old receiver word.entry entries import self.new) }
         ensures texts { OnOk result (IsListable word.entry.text.now × IsUtf8 «module».entry.text.now) }
         ensures refused { OnRefused result (¬ (IsListable word.entry.text.now × IsUtf8 «module».entry.text.now)) }
     {

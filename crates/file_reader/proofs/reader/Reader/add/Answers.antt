@@ -56,3 +56,6 @@ returns-in-Path-clause-refused c = rw c.in-Path.is c.add_path.ensures.refused
 
 pub returns-in-Model-clause-refused : goal.returns-in-Model-clause-refused
 returns-in-Model-clause-refused c = rw c.in-Model.is c.add_model.ensures.refused
+
+pub returns-in-Use-clause-refused : goal.returns-in-Use-clause-refused
+returns-in-Use-clause-refused c = rw c.in-Use.is c.add_use.ensures.refused

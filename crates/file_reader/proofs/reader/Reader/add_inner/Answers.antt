@@ -1,15 +1,13 @@
-use Rattle.std.proofs.Common.{rules, refl, sym, subst, ◌≡◌, List, [], ◌∷◌, ◌++◌, Option, Result, OnOk}
+use Rattle.std.proofs.Common.{rules, refl, sym, subst, ◌≡◌, List, [], ◌∷◌, ◌++◌, Result, OnOk}
 use Rattle.std.proofs.lemmas.Result.{on_ok_weaker}
 use Rattle.std.specs.Borrow.{Bor}
 use Rattle.std.specs.BTreeMap.{BTreeMap}
 use Rattle.std.specs.Prelude.{ℕ}
-use Rattle.entries.specs.declared.per_ns.PerNs.{PerNs}
 use Rattle.file_reader.specs.FullNames.{Declarations}
 use Rattle.file_reader.specs.Told.{Told, told_by}
 use Rattle.file_reader.specs.declared.reader.Known.{Known}
 use Rattle.firmware.specs.declared.definitions.Definitions.{Definitions}
-use Rattle.hir_def.specs.declared.ModuleId.{ModuleId}
-use Rattle.hir_def.specs.declared.import.ImportOrExternCrate.{ImportOrExternCrate}
+use Rattle.item_scope.specs.declared.delivery.Delivery.{Delivery}
 use Rattle.nameres.specs.declared.tree_rows.ModuleRow.{ModuleRow}
 use Rattle.file_reader.proofs.reader.Reader.add_inner.Goals as goal
 
@@ -17,7 +15,7 @@ then : {T E P Q : Type 0} (r : Result T E) → OnOk r P → (P → Q) → OnOk r
 then r p f = on_ok_weaker r f p
 
 -- a name is listed, a module added and declared, and a delivery made
-joined : (t a b c d : Told) (m n : List (List ℕ)) (k : BTreeMap (Bor (List ℕ)) Known) (q : Declarations) (s : Definitions) (r : ModuleRow) (x y : ModuleId × (PerNs × Option ImportOrExternCrate))
+joined : (t a b c d : Told) (m n : List (List ℕ)) (k : BTreeMap (Bor (List ℕ)) Known) (q : Declarations) (s : Definitions) (r : ModuleRow) (x y : Delivery)
     → a ≡ record t { names = m }
     → b ≡ record a { above = k; definitions = s; modules = a.modules ++ r ∷ [] }
     → c ≡ record b { declared = q }
@@ -27,7 +25,7 @@ joined : (t a b c d : Told) (m n : List (List ℕ)) (k : BTreeMap (Bor (List ℕ
 joined t a b c d m n k q s r x y e f g h i = cc
 
 -- what is declared above is told by the last of them
-named : (t d : Told) (n : List (List ℕ)) (k : BTreeMap (Bor (List ℕ)) Known) (q : Declarations) (s : Definitions) (r : List ModuleRow) (y : List (ModuleId × (PerNs × Option ImportOrExternCrate)))
+named : (t d : Told) (n : List (List ℕ)) (k : BTreeMap (Bor (List ℕ)) Known) (q : Declarations) (s : Definitions) (r : List ModuleRow) (y : List Delivery)
     → d ≡ record t { names = n; above = k; declared = q; definitions = s; modules = r; delivered = y }
     → d ≡ record t { names = n; above = d.above; declared = d.declared; definitions = d.definitions; modules = r; delivered = y }
 named t d n k q s r y e =
@@ -44,7 +42,9 @@ returns-clause-added c =
       c.in_ok-vis.vis,
       c.in_ok-id.id,
       _,
+      told.0,
       search rules,
+      told.1,
       search rules,
       search rules,
       search rules,
@@ -53,5 +53,5 @@ returns-clause-added c =
       search rules,
       search rules,
       named (told_by c.args.self.now) _ _ _ _ _ _ _
-          (joined (told_by c.args.self.now) _ _ _ _ _ _ _ _ _ _ _ _ c.list_name.ensures.told c.in_ok-id.ensures.added.1 c.declare.ensures.told told (cc c.types-entries.ensures)),
+          (joined (told_by c.args.self.now) _ _ _ _ _ _ _ _ _ _ _ _ c.list_name.ensures.told c.in_ok-id.ensures.added.1 c.declare.ensures.told told.2 (cc c.types-entries.ensures)),
     ))
