@@ -61,7 +61,7 @@ AddsPath old path asking new =
     (q : Option Question) × Asks old.by_name asking q
     × (told_by new ≡ record (told_by old) { paths = vec_items old.firmware.paths ++ path ∷ []; questions = vec_items old.firmware.questions ++ q ∷ [] })
 
--- An item may stand in a module that is declared above, with the visibility that is told there, where its name may be listed.
+-- An item may stand in a module that is declared above: its name may be listed, and its visibility is told there.
 abbrev pub MayStand : BTreeMap (Bor (List ℕ)) Known → Site → Known → Visibility → Type 0
 MayStand above s at v =
     IsListable s.name.text.now × IsUtf8 s.«module».text.now
@@ -100,7 +100,7 @@ styles_of kind.Trait = []
 styles_of kind.TypeAlias = []
 styles_of (kind.Variant s) = []
 
--- A definition may come in where its name and what is named around it are text, and one more is counted with 32 bits.
+-- A definition may come in where its name and what it is within are text, and its number has 32 bits.
 abbrev pub MayDefine : Definitions → ItemKind → Word → Word → Type 0
 MayDefine d k name within = IsUtf8 name.text.now × IsUtf8 within.text.now × IsRowNumber (length (defined_as d k))
 
@@ -148,7 +148,7 @@ IsCrate above w c = IsMap above w (map_id.Crate c.0) × IsModule above w c.1
 abbrev pub IsNumber : List (List ℕ) → List ℕ → Name → Type 0
 IsNumber names w n = as_name (first names w 0) ≡ Some n
 
--- A module may come in where none is declared above with its full name, which is text, and one more is counted with 32 bits.
+-- A module may come in where none of its full name is declared above, the name is text, and its number has 32 bits.
 abbrev pub MayDeclare : Reader → Word → Type 0
 MayDeclare old w =
     (known_of old.by_name w.text.now ≡ None) × IsUtf8 w.text.now × IsRowNumber (length (vec_items old.firmware.modules))
