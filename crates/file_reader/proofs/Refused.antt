@@ -40,13 +40,15 @@ passed (Err (Memory n)) (Err (Refused d)) e h k f p = absurd (cc)
 passed (Err (Refused b)) (Err (Refused d)) e h k f p = f p
 
 -- where no module is named, no visibility is told
-pub none_told : (above : BTreeMap (Bor (List ℕ)) Known) (at : Known) (w : Word) → ((m : ModuleId) → ¬ (Names above w.text.now m)) → (v : Visibility) → ¬ (Tells above at (raw.In w) v)
+pub none_told : (above : BTreeMap (Bor (List ℕ)) Known) (at : Known) (w : Word)
+    → ((m : ModuleId) → ¬ (Names above w.text.now m)) → (v : Visibility) → ¬ (Tells above at (raw.In w) v)
 none_told above at w none (vis.Module m Explicit) h = none m h
 none_told above at w none (vis.Module m Implicit) h = h
 none_told above at w none vis.Public h = h
 none_told above at w none (vis.PubCrate c) h = h
 
 -- a statement of the tree below a model
-pub may_not_follow : (s : Statement) (r : Reader) → vec_items r.firmware.models ≢ [] → stands_below_models s ≡ false → ¬ (MayFollow s r)
+pub may_not_follow : (s : Statement) (r : Reader)
+    → vec_items r.firmware.models ≢ [] → stands_below_models s ≡ false → ¬ (MayFollow s r)
 may_not_follow s r some never (inl h) = some h
 may_not_follow s r some never (inr h) = cc

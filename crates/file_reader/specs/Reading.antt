@@ -36,13 +36,15 @@ lines_of text = slice_split (λ b. b == 10) text
 unfoldable pub Reads : List ℕ → Firmware → Type 0
 Reads text f = (first : Reader) × (last : Reader) × IsNew first × ReadsLines first (lines_of text) last × (f ≡ last.firmware)
 
--- Why a line is refused: what stands before its comment is spelt by no statement, or it is read as one that may not follow or that no reader is added by.
+-- Why a line is refused: what stands before its comment is spelt by no statement, or is read as one that may not follow
+-- or cannot be added.
 unfoldable pub RefusesLine : List ℕ → Reader → Type 0
 RefusesLine line old =
     (code : List ℕ) × BeforeComment line code
-    × ((¬ (IsReadable code)) ⊎ ((o : Option (Word × Statement)) × IsRead code o × NoReader (AddsRead o old)))
+    × ((¬ (IsReadable code))
+    ⊎ ((o : Option (Word × Statement)) × IsRead code o × NoReader (AddsRead o old)))
 
--- Why a file is refused: the lines before one of its lines are read, and that line is refused then.
+-- Why a file is refused: the lines before one of its lines are read from where nothing is told yet, and that line is refused.
 unfoldable pub RefusesFile : List ℕ → Type 0
 RefusesFile text =
     (before : List (List ℕ)) × (line : List ℕ) × (after : List (List ℕ)) × (first : Reader) × (last : Reader)

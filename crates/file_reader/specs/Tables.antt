@@ -74,7 +74,7 @@ Delivers old m w e i new =
       delivered = deliveries old ++ record { receiver = m; name = n; entries = e; import = i } ∷ [];
     })
 
--- An item may stand in a module that is declared above, with the visibility that is told there, where its name may be listed.
+-- An item may stand in a module that is declared above: its name may be listed, and its visibility is told there.
 abbrev pub MayStand : BTreeMap (Bor (List ℕ)) Known → Site → Known → Visibility → Type 0
 MayStand above s at v =
     IsListable s.name.text.now × IsUtf8 s.«module».text.now
@@ -113,7 +113,7 @@ styles_of kind.Trait = []
 styles_of kind.TypeAlias = []
 styles_of (kind.Variant s) = []
 
--- A definition may come in where its name and what is named around it are text, and one more is counted with 32 bits.
+-- A definition may come in where its name and what it is within are text, and its number has 32 bits.
 abbrev pub MayDefine : Definitions → ItemKind → Word → Word → Type 0
 MayDefine d k name within = IsUtf8 name.text.now × IsUtf8 within.text.now × IsRowNumber (length (defined_as d k))
 
@@ -154,7 +154,7 @@ IsMap above w m = option_map (λ k. k.root_of) (known_of above w) ≡ Some (Some
 abbrev pub IsModule : BTreeMap (Bor (List ℕ)) Known → List ℕ → ModuleId → Type 0
 IsModule above w m = option_map (λ k. k.id) (known_of above w) ≡ Some m
 
--- A module may come in where none is declared above with its full name, which is text, and one more is counted with 32 bits.
+-- A module may come in where none of its full name is declared above, the name is text, and its number has 32 bits.
 abbrev pub MayDeclare : Reader → Word → Type 0
 MayDeclare old w =
     (known_of old.by_name w.text.now ≡ None) × IsUtf8 w.text.now × IsRowNumber (length (vec_items old.firmware.modules))

@@ -31,7 +31,8 @@ pub returns-in-LegacyMacro-default-default-None-clause-refused :
 returns-in-LegacyMacro-default-default-None-clause-refused c =
     let told = c.in-LegacyMacro-default-default-None in
     let meant : told.field-2 ≡ None = rw told.is at told.field-2-is in
-    rw told.is (subst (λ (o : Option Word). OnRefused c.add_legacy.result (NoReader (Adds (statement.LegacyMacro told.name told.«module» o) c.args.self.now)))
+    rw told.is (subst
+    (λ (o : Option Word). OnRefused c.add_legacy.result (NoReader (Adds (statement.LegacyMacro told.name told.«module» o) c.args.self.now)))
     (sym meant) c.add_legacy.ensures.refused)
 
 pub returns-in-LegacyMacro-default-default-Some-clause-refused :
@@ -39,7 +40,8 @@ pub returns-in-LegacyMacro-default-default-Some-clause-refused :
 returns-in-LegacyMacro-default-default-Some-clause-refused c =
     let told = c.in-LegacyMacro-default-default-Some in
     let meant : told.field-2 ≡ Some told.meant = rw told.is at told.field-2-is in
-    rw told.is (subst (λ (o : Option Word). OnRefused c.add_legacy_of.result (NoReader (Adds (statement.LegacyMacro told.name told.«module» o) c.args.self.now)))
+    rw told.is (subst
+    (λ (o : Option Word). OnRefused c.add_legacy_of.result (NoReader (Adds (statement.LegacyMacro told.name told.«module» o) c.args.self.now)))
     (sym meant) c.add_legacy_of.ensures.refused)
 
 pub returns-in-ExternPrelude-clause-refused : goal.returns-in-ExternPrelude-clause-refused
