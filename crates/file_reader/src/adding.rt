@@ -39,7 +39,6 @@ impl<'a> Reader<'a> {
         let name = name_of(word)?;
         self.firmware.list.add(word.text)?;
         let number = self.firmware.list.number(word.text).ok_or(AllocError)?;
-        self.firmware.name_count = self.firmware.name_count.max(number.0.saturating_add(1));
         Ok((name, number))
     }
 

@@ -9,8 +9,6 @@ use firmware::tables::{IndexRows, RowsTold};
 use path_text::name_list::NameList;
 use std::alloc::{AllocError, Global};
 
-const BUILTIN_NAMES: u32 = 19;
-
 fn no_definitions<'a>(alloc: Global) -> Definitions<'a>
     ensures { Undefined result }
 {
@@ -64,7 +62,6 @@ pub(crate) fn nothing<'a>(alloc: Global) -> Result<Firmware<'a>, AllocError>
         paths: Vec::new(alloc),
         questions: Vec::new(alloc),
         list: NameList::built_in(alloc)?,
-        name_count: BUILTIN_NAMES,
         models: Vec::new(alloc),
     })
 }

@@ -29,7 +29,7 @@ count_of n = min n (2 ^ 32 - 1)
 abbrev pub declared_rows : Firmware → IndexRows
 declared_rows f = record {
   tree = record { modules = vec_items f.modules; blocks = vec_items f.blocks; crates = vec_items f.crates };
-  names = f.name_count;
+  names = count_of (length f.list);
   enums = count_of (length (vec_items f.definitions.enums));
   macros = count_of (length (vec_items f.tables.styles));
   extern_prelude = vec_items f.tables.extern_prelude.rows;

@@ -46,8 +46,6 @@ pub struct Firmware<'a> {
     pub questions: Vec<Option<Question>>,
     /// The names that the file declares, after the built-in ones.
     pub list: NameList<'a>,
-    /// How many names the list has.
-    pub name_count: u32,
     /// The card models, in the order of their statements.
     pub models: Vec<Model<'a>>,
 }

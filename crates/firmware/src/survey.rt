@@ -45,7 +45,7 @@ pub fn tables_of<'f, 't>(firmware: &'f Firmware<'t>) -> IndexTables<'f>
             blocks: firmware.blocks.as_slice(),
             crates: firmware.crates.as_slice(),
         },
-        names: firmware.name_count,
+        names: count_of(firmware.list.count()),
         enums: count_of(firmware.definitions.enums.len()),
         macros: count_of(tables.styles.len()),
         extern_prelude: tables.extern_prelude.rows.as_slice(),

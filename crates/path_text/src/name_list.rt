@@ -1,5 +1,5 @@
 // Name lists: a name's number is its first line, counted from 0.
-ghost use Rattle.std.specs.Prelude.{◌≡◌, ◌<◌, ◌++◌, ◌∷◌, [], IfOk, IfErr, OnOk, OnErr, MatchOption, option_map};
+ghost use Rattle.std.specs.Prelude.{◌≡◌, ◌<◌, ◌++◌, ◌∷◌, [], IfOk, IfErr, OnOk, OnErr, MatchOption, length, option_map};
 ghost use Rattle.std.specs.List.{slice_get};
 ghost use Rattle.hir_def.specs.Faults.{Answers, IfRefused, OnMemory};
 ghost use Rattle.path_text.specs.Lists.{lines_of, OneLine, Split, good_line, bad_line, made_of, Fits, Misfit, Never, FirstAt, first, as_name, IsLineAt, Grows, builtin_line, builtin_lines};
@@ -193,6 +193,13 @@ impl<'a> NameList<'a> {
             MatchOption result (Never at) (λ n. FirstAt at n.0) }
     {
         self.numbers.get(name).copied()
+    }
+
+    /// How many names the list has.
+    pub fn count(&self) -> usize
+        ensures { result ≡ length self.now }
+    {
+        self.lines.len()
     }
 
     /// The name of that number, if the list has one.
