@@ -1,5 +1,5 @@
 -- A model is what its deliveries make of the index below: the further delivery is refused, and so changes nothing.
-use Rattle.std.proofs.Common.{◌≡◌, ℕ, Bool, true, false, not, if◌then◌else◌, nat_lt, List, [], ◌∷◌, ◌++◌, Option, Some, None, Ok, Err, Result, is_ok, refl, ap, ◌∙◌, sym, subst, inl, inr, rules, map}
+use Rattle.std.proofs.Common.{◌≡◌, ℕ, Bool, true, false, if◌then◌else◌, nat_lt, List, [], ◌∷◌, ◌++◌, Option, Some, None, Result, is_ok, refl, ap, ◌∙◌, sym, subst, inl, inr, rules, map}
 use Rattle.std.specs.Option.{option_or}
 use Rattle.std.proofs.lemmas.Bool.{cases_Bool}
 use Rattle.hir_def.specs.declared.fault.IndexFault.{IndexFault}
@@ -8,11 +8,13 @@ use Rattle.hir_def.specs.declared.fault.PathFault.{PathFault}
 use Rattle.entries.specs.Entries.{is_nothing}
 use Rattle.item_scope.specs.declared.delivery.Delivery.{Delivery}
 use Rattle.item_scope.specs.IndexData.{IndexData}
-use Rattle.item_scope.specs.Deliveries.{Takes, faulty, answer_of, delivered, refused}
+use Rattle.item_scope.specs.Deliveries.{Takes, faulty, answer_of, delivered}
 use Rattle.item_scope.specs.Views.{View}
 use Rattle.orders.specs.declared.agreement.Agreement.{Agreement}
 use Rattle.orders.specs.Agreements.{Agrees, AgreementLaw}
-use Rattle.orders.specs.Orders.{calls_of}
+use Rattle.orders.specs.Orders.{calls_of, reordered}
+use Rattle.orders.specs.declared.order.Order.{Order}
+use Rattle.model_runs.specs.Made.{own_places, IsRunOver}
 use Rattle.path_resolution.specs.declared.answer.ResolvePathResult.{ResolvePathResult as Answer}
 use Rattle.path_resolution.specs.declared.question.Question.{Question}
 use Rattle.path_text.specs.declared.mod_path.ModPath.{ModPath}
@@ -49,6 +51,28 @@ module _ (d : Delivery) (r : Result Bool IndexFault) (n : is_nothing d.entries �
   pub ended : {s t : State} (made : List Call) → Ran s (made ++ Deliver d (Some r) ∷ []) t → t.view ≡ told_after s.view made
   ended {s} {t} [] (next h done) = stays s.view s.left d r t.view t.left n h
   ended (x ∷ made) (next {s = s} {m = m} h k) = ended made k ∙ ap (λ v. told_after v made) (did-told s m x h)
+
+module _ (d : Delivery) (r : Result Bool IndexFault) (n : is_nothing d.entries ≡ true) where
+  -- the run before such a delivery ends in what is told after it
+  before_it : {s t : State} (made : List Call) → Ran s (made ++ Deliver d (Some r) ∷ []) t → (left : ℕ) × Ran s made (state t.view left)
+  before_it {s} {t} [] (next h done) =
+      (s.left, subst (λ (v : View). Ran s [] (state v s.left)) (sym (stays s.view s.left d r t.view t.left n h)) done)
+  before_it (x ∷ made) (next h k) = let rest = before_it made k in (rest.0, next h rest.1)
+
+-- an index over another that was tried with such a delivery
+pub run_over : (u v w : View) (k : ℕ) (given made : List Call) (q : Question) (path : ModPath) (d : Delivery) (o : Outcome) → v ≡ u → Tried (state v own_places) given made q path d o (state w k) → is_nothing d.entries ≡ true → IsRunOver u given made w
+unfolding IsRunOver
+run_over u v w k given made q path d o e t n =
+    (t.calls, subst (λ (x : View). (left : ℕ) × Ran (state x own_places) made (state w left)) e (before_it d o.further n made t.ran))
+
+-- the same of calls in another order, which are told of a list that is another's equal
+pub run_of : (u v w : View) (l k : ℕ) (xs ys : List Delivery) (order : Order) (made : List Call) (q : Question) (path : ModPath) (d : Delivery) (o : Outcome) → xs ≡ ys → v ≡ u → l ≡ own_places → Tried (state v l) (reordered order (calls_of xs)) made q path d o (state w k) → is_nothing d.entries ≡ true → (x : View) × IsRunOver u (reordered order (calls_of ys)) made x
+run_of u v w l k xs ys order made q path d o f e h t n = (
+  w,
+  subst (λ (ds : List Delivery). IsRunOver u (reordered order (calls_of ds)) made w) f
+      (run_over u v w k (reordered order (calls_of xs)) made q path d o e
+      (subst (λ (x : ℕ). Tried (state v x) (reordered order (calls_of xs)) made q path d o (state w k)) h t) n),
+)
 
 -- an index that was tried with such a delivery tells what the run made
 pub tried_told : (v w : View) (l k : ℕ) (given made : List Call) (q : Question) (path : ModPath) (d : Delivery) (o : Outcome) → Tried (state v l) given made q path d o (state w k) → is_nothing d.entries ≡ true → w ≡ told_after v made

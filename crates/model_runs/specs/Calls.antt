@@ -1,5 +1,5 @@
 -- What came of a model's deliveries.
-use Rattle.std.specs.Prelude.{Bool, List, [], ◌∷◌, Option, Some, None, Ok, Err, Result}
+use Rattle.std.specs.Prelude.{Bool, List, [], ◌∷◌, Option, Some, None, Err, Result}
 use Rattle.hir_def.specs.declared.fault.IndexFault.{IndexFault}
 use Rattle.hir_def.specs.declared.fault.IndexFault.TheVariants.{NothingFilled}
 use Rattle.firmware.specs.declared.deliveries.Outcome.{Outcome}

@@ -4,13 +4,14 @@ ghost use Rattle.std.specs.List.{slice_get};
 ghost use Rattle.entries.specs.Entries.{is_nothing};
 ghost use Rattle.runs.specs.Order.{Alike};
 ghost use Rattle.runs.specs.Runs.{unmade, told_after};
-ghost use Rattle.orders.specs.Agreements.{Agrees};
-ghost use Rattle.orders.specs.Orders.{calls_of};
+ghost use Rattle.item_scope.specs.Views.{View};
+ghost use Rattle.orders.specs.Agreements.{Agrees, agreement_of};
+ghost use Rattle.orders.specs.Orders.{calls_of, other_order, reordered};
 ghost use Rattle.variants.specs.Variants.{view_in};
 ghost use Rattle.firmware.specs.declared.pile.Part.TheVariants.{Model};
 ghost use Rattle.model_runs.specs.Calls.{result_of, result_at, outcomes_of};
 ghost use Rattle.model_runs.specs.Parts.{deliveries_in};
-ghost use Rattle.model_runs.specs.Made.{IsMadeBy};
+ghost use Rattle.model_runs.specs.Made.{IsMadeBy, IsRunOver};
 
 use entries::per_ns::PerNs;
 use firmware::deliveries::{Outcome, deliver_all};
@@ -78,7 +79,7 @@ pub struct Made<'a, I: Index> {
 
 /// Makes the deliveries of the statements to two variants over the index: to the model in their order, and to the other one in the
 /// other order. The path is asked of each.
-#[tactic(auto, using(crate::proofs::Modelling::tried_told, crate::proofs::Modelling::agreed))]
+#[tactic(auto, using(crate::proofs::Modelling::tried_told, crate::proofs::Modelling::agreed, crate::proofs::Modelling::run_over))]
 pub fn make_model<'a, I: Index>(
     alloc: Global,
     below: &'a I,
@@ -89,6 +90,14 @@ pub fn make_model<'a, I: Index>(
     // The model tells what the deliveries make of the index below.
     ensures model { IfOk result (λ m. view_in m.index ≡ told_after (I.view below.entry.now) m.orders.first.items) }
     ensures calls { IfOk result (λ m. map unmade m.orders.first.items ≡ calls_of (map (λ s. s.delivery) statements.now)) }
+    // What came of the deliveries is what is told of them, in their order and in the other one.
+    ensures first { IfOk result (λ m. IsRunOver (I.view below.entry.now)
+        (calls_of (map (λ s. s.delivery) statements.now)) m.orders.first.items (view_in m.index)) }
+    ensures order { IfOk result (λ m. m.orders.order ≡ other_order (calls_of (map (λ s. s.delivery) statements.now))) }
+    ensures second { IfOk result (λ m. (w : View) × IsRunOver (I.view below.entry.now)
+        (reordered m.orders.order (calls_of (map (λ s. s.delivery) statements.now))) m.orders.second.items w) }
+    ensures agreement { IfOk result (λ m. m.orders.agreement
+        ≡ agreement_of (reordered m.orders.order m.orders.first.items) m.orders.second.items) }
     // Where the orders agree, every question has one answer in both.
     ensures agree { IfOk result (λ m. Agrees m.orders.agreement → (let v = I.view below.entry.now in
         Alike (told_after v m.orders.first.items) (told_after v m.orders.second.items) m.orders.compared.first.before m.orders.compared.second.before)) }
