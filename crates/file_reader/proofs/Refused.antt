@@ -1,20 +1,19 @@
 -- What a refusal comes to.
-use Rattle.std.proofs.Common.{◌≡◌, ◌≢◌, false, inl, inr, Ok, Err, Result, vec_items, [], List, ℕ}
-use Rattle.std.specs.Borrow.{Bor}
-use Rattle.std.specs.BTreeMap.{BTreeMap}
+use Rattle.std.proofs.Common.{◌≡◌, ◌≢◌, false, inl, inr, Ok, Err, Result, [], List, ℕ, Option, subst}
 use Rattle.entries.specs.declared.visibility.Visibility.{Visibility}
 use Rattle.entries.specs.declared.visibility.Visibility.TheVariants as vis
 use Rattle.entries.specs.declared.visibility.VisibilityExplicitness.TheVariants.{Explicit, Implicit}
-use Rattle.file_reader.specs.Reading.{MayFollow}
+use Rattle.file_reader.specs.Reading.{IsReadAt, MayFollow}
 use Rattle.file_reader.specs.Refusals.{OnRefused}
 use Rattle.file_reader.specs.Statements.{Names, Tells}
 use Rattle.file_reader.specs.declared.reader.Known.{Known}
-use Rattle.file_reader.specs.declared.reader.Reader.{Reader}
+use Rattle.file_reader.specs.Told.{Modules, Told}
 use Rattle.hir_def.specs.declared.ModuleId.{ModuleId}
 use Rattle.hir_def.specs.declared.fault.Failure.{Failure}
 use Rattle.hir_def.specs.declared.fault.Failure.TheVariants.{Memory, Refused}
 use Rattle.source_text.specs.declared.words.Word.{Word}
-use Rattle.statements.specs.Spelling.{stands_below_models}
+use Rattle.statements.specs.Lines.{AllStandIn}
+use Rattle.statements.specs.Spelling.{IsRead, stands_below_models}
 use Rattle.statements.specs.declared.clauses.RawVisibility.TheVariants as raw
 use Rattle.statements.specs.declared.statement.Statement.{Statement}
 
@@ -40,7 +39,7 @@ passed (Err (Memory n)) (Err (Refused d)) e h k f p = absurd (cc)
 passed (Err (Refused b)) (Err (Refused d)) e h k f p = f p
 
 -- where no module is named, no visibility is told
-pub none_told : (above : BTreeMap (Bor (List ℕ)) Known) (at : Known) (w : Word)
+pub none_told : (above : Modules) (at : Known) (w : Word)
     → ((m : ModuleId) → ¬ (Names above w.text.now m)) → (v : Visibility) → ¬ (Tells above at (raw.In w) v)
 none_told above at w none (vis.Module m Explicit) h = none m h
 none_told above at w none (vis.Module m Implicit) h = h
@@ -48,7 +47,11 @@ none_told above at w none vis.Public h = h
 none_told above at w none (vis.PubCrate c) h = h
 
 -- a statement of the tree below a model
-pub may_not_follow : (s : Statement) (r : Reader)
-    → vec_items r.firmware.models ≢ [] → stands_below_models s ≡ false → ¬ (MayFollow s r)
+pub may_not_follow : (s : Statement) (r : Told)
+    → r.models ≢ [] → stands_below_models s ≡ false → ¬ (MayFollow s r)
 may_not_follow s r some never (inl h) = some h
 may_not_follow s r some never (inr h) = cc
+
+-- what is read of a line stands in it
+pub read_at : (a b : ℕ) (code : List ℕ) (o : Option (Word × Statement)) → a ≡ b → IsRead code o → AllStandIn a o → IsReadAt b code o
+read_at a b code o e r l = (r, subst (λ n. AllStandIn n o) e l)

@@ -1,29 +1,90 @@
--- What the statement of an item of a kind adds to a file's definitions.
-use Rattle.std.specs.Prelude.{◌≡◌, ℕ, List, [], ◌∷◌, ◌++◌, vec_items}
+-- The statements that a file keeps of definitions and imports, each by its number among those that are counted with it.
+use Rattle.std.specs.Prelude.{ℕ, List, [], ◌∷◌, ◌++◌, length, map, vec_items}
 use Rattle.firmware.specs.declared.definition.Definition.{Definition}
 use Rattle.firmware.specs.declared.definition.Standing.{Standing}
 use Rattle.firmware.specs.declared.definitions.Definitions.{Definitions}
 use Rattle.hir_def.specs.declared.ModuleDefId.{ModuleDefId}
-use Rattle.source_text.specs.declared.words.Word.{Word}
+use Rattle.item_scope.specs.declared.index_data.CallStyles.{CallStyles}
 use Rattle.statements.specs.Kinds.{def_of}
+use Rattle.statements.specs.declared.kinds.Bringing.{Bringing}
+use Rattle.statements.specs.declared.kinds.Bringing.TheVariants as bringing
 use Rattle.statements.specs.declared.kinds.ItemKind.{ItemKind}
 use Rattle.statements.specs.declared.kinds.ItemKind.TheVariants as kind
 
--- One more among those that are counted with that kind, and else nothing but the list of the items.
-abbrev pub Grows : Definitions → ItemKind → Definition → Definitions → Type 0
-Grows old kind.Enum d new = (new ≡ record old { enums = new.enums; of_a_kind = new.of_a_kind }) × (vec_items new.enums ≡ vec_items old.enums ++ d ∷ [])
-Grows old (kind.Macro styles) d new = (new ≡ record old { macros = new.macros; of_a_kind = new.of_a_kind }) × (vec_items new.macros ≡ vec_items old.macros ++ d ∷ [])
-Grows old k d new = (new ≡ record old { others = new.others; of_a_kind = new.of_a_kind }) × (vec_items new.others ≡ vec_items old.others ++ d ∷ [])
+-- a statement as it is kept: the full name around what it declares, the name of that, the line, and where it stands
+pub record Kept : Type 0 where
+  pub within : List ℕ
+  pub name : List ℕ
+  pub line : ℕ
+  pub standing : Standing
 
--- a definition of that name within what is named, in the line of the name
-abbrev pub Defined : Word → Word → Standing → Definition → Type 0
-Defined name within standing d = (d.name.now ≡ name.text.now) × (d.within.now ≡ within.text.now) × (d.line ≡ name.line) × (d.standing ≡ standing)
+abbrev pub kept : Definition → Kept
+kept d = record { within = d.within.now; name = d.name.now; line = d.line; standing = d.standing }
+
+-- all that are kept, as they are counted, and the items of a kind in their order
+pub record Counted : Type 0 where
+  pub modules : List Kept
+  pub enums : List Kept
+  pub macros : List Kept
+  pub others : List Kept
+  pub imports : List Kept
+  pub globs : List Kept
+  pub extern_crates : List Kept
+  pub of_a_kind : List ModuleDefId
+
+abbrev pub counted : Definitions → Counted
+counted d = record {
+  modules = map kept (vec_items d.modules);
+  enums = map kept (vec_items d.enums);
+  macros = map kept (vec_items d.macros);
+  others = map kept (vec_items d.others);
+  imports = map kept (vec_items d.imports);
+  globs = map kept (vec_items d.globs);
+  extern_crates = map kept (vec_items d.extern_crates);
+  of_a_kind = vec_items d.of_a_kind;
+}
+
+-- the definitions that are counted with those of a kind
+abbrev pub defined_as : Counted → ItemKind → List Kept
+defined_as c kind.Enum = c.enums
+defined_as c (kind.Macro styles) = c.macros
+defined_as c kind.Function = c.others
+defined_as c kind.Const = c.others
+defined_as c kind.Static = c.others
+defined_as c (kind.Struct s) = c.others
+defined_as c kind.Union = c.others
+defined_as c kind.Trait = c.others
+defined_as c kind.TypeAlias = c.others
+defined_as c (kind.Variant s) = c.others
+
+-- one more of a kind
+abbrev pub keep : Counted → ItemKind → Kept → Counted
+keep c kind.Enum d = record c { enums = c.enums ++ d ∷ [] }
+keep c (kind.Macro styles) d = record c { macros = c.macros ++ d ∷ [] }
+keep c k d = record c { others = c.others ++ d ∷ [] }
 
 -- the item that is listed: a variant is none of its own
 abbrev pub items_of : ItemKind → ℕ → List ModuleDefId
 items_of (kind.Variant s) n = []
 items_of k n = def_of k n ∷ []
 
--- The statement is kept as the definition of that kind that is told next.
-abbrev pub Keeps : Definitions → ItemKind → Word → Word → Standing → Definitions → Type 0
-Keeps old k name within standing new = (d : Definition) × Defined name within standing d × Grows old k d new
+-- one more of a kind, numbered by its turn among those that are counted with it, and listed by that number
+abbrev pub define : Counted → ItemKind → Kept → Counted
+define c k d = record (keep c k d) { of_a_kind = c.of_a_kind ++ items_of k (length (defined_as c k)) }
+
+-- how a macro may be called
+abbrev pub styles_of : ItemKind → List CallStyles
+styles_of (kind.Macro styles) = styles ∷ []
+styles_of k = []
+
+-- the imports by the same word
+abbrev pub imports_of : Counted → Bringing → List Kept
+imports_of c bringing.Named = c.imports
+imports_of c bringing.Glob = c.globs
+imports_of c bringing.ExternCrate = c.extern_crates
+
+-- one import more
+abbrev pub keep_import : Counted → Bringing → Kept → Counted
+keep_import c bringing.Named d = record c { imports = c.imports ++ d ∷ [] }
+keep_import c bringing.Glob d = record c { globs = c.globs ++ d ∷ [] }
+keep_import c bringing.ExternCrate d = record c { extern_crates = c.extern_crates ++ d ∷ [] }

@@ -1,19 +1,18 @@
 -- What full names mean: the modules that are declared above, and what the parts of the file declare with a kind.
-use Rattle.std.specs.Prelude.{ℕ, ◌+◌, if◌then◌else◌, List, drop, fold, length, map, take, unwrap_or, Option, Some, None, vec_items}
+use Rattle.std.specs.Prelude.{ℕ, ◌+◌, if◌then◌else◌, List, drop, fold, length, map, take, unwrap_or, Option, Some, None}
 use Rattle.std.specs.Borrow.{Bor}
-use Rattle.std.specs.BTreeMap.{BTreeMap, Updates, get_by}
+use Rattle.std.specs.BTreeMap.{Updates, get_by}
 use Rattle.std.specs.Cmp.Lexicographic.{slice_cmp}
 use Rattle.std.specs.Option.{option_and_then, option_map, option_map_or}
 use Rattle.std.specs.Ordering.{nat_cmp, ordering_then}
 use Rattle.std.specs.declared.cmp.Ordering.{Ordering}
 use Rattle.entries.specs.Entries.{is_nothing, nothing, of_types, or_else}
 use Rattle.entries.specs.declared.per_ns.PerNs.{PerNs}
-use Rattle.entries.specs.declared.visibility.Visibility.{Visibility}
 use Rattle.entries.specs.declared.visibility.Visibility.TheVariants.{Public}
 use Rattle.file_reader.specs.Models.{part_of, parts_seen}
 use Rattle.file_reader.specs.Statements.{crate_of, known_of}
 use Rattle.file_reader.specs.declared.reader.Known.{Known}
-use Rattle.file_reader.specs.declared.reader.Reader.{Reader}
+use Rattle.file_reader.specs.Told.{Declarations, Key, Modules, Told}
 use Rattle.firmware.specs.contracts.pile.PartOrd.TheImpl.{cmp-value as part_cmp}
 use Rattle.firmware.specs.declared.models.Model.{Model}
 use Rattle.firmware.specs.declared.pile.Part.{Part}
@@ -25,14 +24,6 @@ use Rattle.hir_def.specs.declared.ModuleDefId.TheVariants as def
 use Rattle.statements.specs.Names.{colons, last_colons}
 use Rattle.statements.specs.declared.kinds.Bringing.{Bringing}
 use Rattle.statements.specs.declared.kinds.Bringing.TheVariants as bringing
-
--- what stands before the last `::` of a full name and the name after it, in a part of the file
-abbrev pub Key : Type 0
-Key = Part × Bor (List ℕ) × Bor (List ℕ)
-
--- what the parts of a file declare with a kind
-abbrev pub Declarations : Type 0
-Declarations = BTreeMap Key PerNs
 
 -- By the part, then by what stands before the last `::`, and then by the name.
 abbrev pub compared : Part → List ℕ → List ℕ → Key → Ordering
@@ -48,8 +39,8 @@ Gains old p within name e new =
     Updates (λ x y. compared x.0 x.1.now x.2.now y) old new (p, within, name) (Some (or_else (declared_in old p within.now name.now) e))
 
 -- the part in which the next statement stands declares the entries with that full name
-abbrev pub DeclaresAs : Reader → Bor (List ℕ) → Bor (List ℕ) → PerNs → Reader → Type 0
-DeclaresAs old within name e new = Gains old.declared (part_of (vec_items old.firmware.models)) within name e new.declared
+abbrev pub DeclaresAs : Told → Bor (List ℕ) → Bor (List ℕ) → PerNs → Told → Type 0
+DeclaresAs old within name e new = Gains old.declared (part_of old.models) within name e new.declared
 
 -- In each namespace, the first of the parts that declares something with a full name has it.
 unfoldable pub declared_in_all : Declarations → List Part → List ℕ → List ℕ → PerNs
@@ -57,13 +48,13 @@ declared_in_all d parts within name = fold or_else nothing (map (λ p. declared_
 
 -- what full names are looked up in: the modules, what else is declared with a kind, and the models
 pub record Above : Type 0 where
-  pub modules : BTreeMap (Bor (List ℕ)) Known
+  pub modules : Modules
   pub declared : Declarations
   pub models : List Model
 
 -- what is declared above, as far as a file is read
-abbrev pub declared_above : Reader → Above
-declared_above r = record { modules = r.by_name; declared = r.declared; models = vec_items r.firmware.models }
+abbrev pub declared_above : Told → Above
+declared_above t = record { modules = t.above; declared = t.declared; models = t.models }
 
 -- what is declared with a full name and a kind in the parts that the next statement sees
 abbrev pub entries_above : Above → List ℕ → List ℕ → PerNs
@@ -91,12 +82,12 @@ abbrev pub as_enum : ModuleDefId → Option EnumId
 as_enum (def.AdtId (adt.EnumId e)) = Some e
 as_enum d = None
 
--- the enum among the entries of a name, and who sees it
-abbrev pub enum_in : PerNs → Option (EnumId × Visibility)
-enum_in e = option_and_then (λ it. option_map (λ n. (n, it.vis)) (as_enum it.def)) e.types
+-- the enum among the entries of a name
+abbrev pub enum_in : PerNs → Option EnumId
+enum_in e = option_and_then (λ it. as_enum it.def) e.types
 
 -- the enum of that full name
-abbrev pub enum_meant : Above → List ℕ → Option (EnumId × Visibility)
+abbrev pub enum_meant : Above → List ℕ → Option EnumId
 enum_meant a full = option_and_then enum_in (meaning a full)
 
 -- what an import of that kind brings: of an extern crate the root of the crate, else what the full name means

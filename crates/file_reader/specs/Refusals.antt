@@ -1,20 +1,19 @@
--- When a call refuses, and what is demanded of the words of a statement.
-use Rattle.std.specs.Prelude.{ℕ, ◌<◌, ◌^◌, List, Ok, Err, Result}
+-- When a call refuses, and what the words of a statement have to be.
+use Rattle.std.specs.Prelude.{ℕ, ◌<◌, ◌^◌, List, Result}
+use Rattle.std.specs.Result.{IfErr}
 use Rattle.std.specs.Str.{IsUtf8}
-use Rattle.file_reader.specs.declared.reader.Reader.{Reader}
+use Rattle.file_reader.specs.Told.{Told}
 use Rattle.hir_def.specs.declared.fault.Failure.{Failure}
-use Rattle.hir_def.specs.declared.fault.Failure.TheVariants.{Memory, Refused}
+use Rattle.hir_def.specs.Faults.{IfRefused}
 use Rattle.path_text.specs.Grammar.{IsName}
 
 -- P where a call refuses; want of memory is no refusal
 abbrev pub OnRefused : {T R : Type 0} → Result T (Failure R) → Type 0 → Type 0
-OnRefused (Ok x) P = Unit {0}
-OnRefused (Err (Memory e)) P = Unit {0}
-OnRefused (Err (Refused r)) P = P
+OnRefused r P = IfErr r (IfRefused (λ _. P))
 
--- no reader has it
-abbrev pub NoReader : (Reader → Type 0) → Type 0
-NoReader P = (new : Reader) → ¬ (P new)
+-- whatever were told then, it is not so
+abbrev pub NoOutcome : (Told → Type 0) → Type 0
+NoOutcome P = (new : Told) → ¬ (P new)
 
 -- a name that the list of names may have
 abbrev pub IsListable : List ℕ → Type 0

@@ -1,11 +1,11 @@
 // What statements of several kinds add to a file: names, items, deliveries and paths.
-ghost use Rattle.std.specs.Prelude.{◌≡◌, IfOk, MatchResult, OnOk, Option};
+ghost use Rattle.std.specs.Prelude.{◌≡◌, ◌∷◌, ◌++◌, [], IfOk, IfErr, MatchResult, OnOk, Option};
 ghost use Rattle.std.specs.Str.{IsUtf8};
-ghost use Rattle.file_reader.specs.declared.reader.Known.{Known};
-ghost use Rattle.file_reader.specs.Refusals.{IsListable, NoReader, OnRefused};
+ghost use Rattle.file_reader.specs.Refusals.{IsListable, NoOutcome, OnRefused};
 ghost use Rattle.file_reader.specs.Statements.{Names, Tells};
-ghost use Rattle.file_reader.specs.Tables.{IsNumber, Asks, AddsPath, AddsItem, Delivers, MayStand};
+ghost use Rattle.file_reader.specs.Tables.{Asks, AddsPath, AddsItem, Lists, MayStand, Stands};
 ghost use Rattle.file_reader.specs.Told.{told_by};
+ghost use Rattle.file_reader.specs.declared.reader.Known.{Known};
 ghost use Rattle.entries.specs.declared.visibility.Visibility.{Visibility};
 ghost use Rattle.hir_def.specs.declared.ModuleId.{ModuleId};
 ghost use Rattle.path_resolution.specs.declared.question.Question.{Question};
@@ -27,52 +27,72 @@ use std::alloc::AllocError;
 use troubles::complaint::Complaint;
 use troubles::trouble::Trouble;
 
+// The name of a statement, which the paths of the file may have.
+#[derive(Clone, Copy)]
+pub(crate) struct Listed<'a> {
+    pub(crate) word: Word<'a>,
+    pub(crate) text: &'a str,
+    pub(crate) number: Name,
+}
+
+// The module that an item or an import stands in.
+#[derive(Clone, Copy)]
+pub(crate) struct Place<'a> {
+    pub(crate) known: Known,
+    pub(crate) module: &'a str,
+    pub(crate) vis: Visibility,
+}
+
 impl<'a> Reader<'a> {
-    // The name of a statement, which the paths of the file may have, and its number.
-    pub(crate) fn list_name(&mut self, word: Word<'a>) -> Result<(&'a str, Name), Failure<Trouble>>
+    pub(crate) fn list_name(&mut self, word: Word<'a>) -> Result<Listed<'a>, Failure<Trouble>>
         ensures told { told_by self.new ≡ record (told_by self.old) { names = self.new.firmware.list } }
-        ensures numbered { IfOk result (λ p. IsNumber self.new.firmware.list word.entry.text.now p.1) }
-        ensures named { IfOk result (λ p. p.0.now ≡ word.entry.text.now) }
+        ensures lists { IfOk result (λ l. Lists (told_by self.old) word.entry.text.now l.number (told_by self.new)) }
+        ensures word { IfOk result (λ l. (l.word ≡ word.entry) × (l.text.now ≡ word.entry.text.now)) }
         ensures listable { OnOk result (IsListable word.entry.text.now) }
         ensures refused { OnRefused result (¬ (IsListable word.entry.text.now)) }
     {
-        let name = name_of(word)?;
+        let text = name_of(word)?;
         self.firmware.list.add(word.text)?;
         let number = self.firmware.list.number(word.text).ok_or(AllocError)?;
-        Ok((name, number))
+        Ok(Listed { word, text, number })
     }
 
+    // A delivery in the line of its name.
     pub(crate) fn deliver(
         &mut self,
         receiver: ModuleId,
-        word: Word<'a>,
-        module: Word<'a>,
+        name: Listed<'a>,
+        module: &'a str,
         entries: PerNs,
         import: Option<ImportOrExternCrate>,
-    ) -> Result<(), Failure<Trouble>>
-        ensures told { OnOk result (Delivers self.old receiver word.entry entries import self.new) }
-        ensures texts { OnOk result (IsListable word.entry.text.now × IsUtf8 «module».entry.text.now) }
-        ensures refused { OnRefused result (¬ (IsListable word.entry.text.now × IsUtf8 «module».entry.text.now)) }
+    ) -> Result<(), AllocError>
+        ensures { OnOk result (told_by self.new ≡ record (told_by self.old) {
+          delivered = (told_by self.old).delivered ++ record {
+            delivery = record { receiver = receiver; name = name.entry.number; entries = entries; import = import };
+            name = name.entry.text.now;
+            within = «module».entry.now;
+            line = name.entry.word.line;
+          } ∷ [];
+        }) }
     {
-        let (name, number) = self.list_name(word)?;
         self.firmware.deliveries.push(DeliveryStatement {
             delivery: Delivery {
                 receiver,
-                name: number,
+                name: name.number,
                 entries,
                 import,
             },
-            name,
-            module: text_of(module)?,
-            line: word.line,
+            name: name.text,
+            module,
+            line: name.word.line,
         })?;
         Ok(())
     }
 
     // The module of `pub(in MODULE)`.
     fn named(&self, word: Word<'a>) -> Result<ModuleId, Complaint>
-        ensures { MatchResult result (Names self.now.by_name word.entry.text.now)
-            (λ _. (m : ModuleId) → ¬ (Names self.now.by_name word.entry.text.now m)) }
+        ensures { MatchResult result (Names (told_by self.now).above word.entry.text.now)
+            (λ _. (m : ModuleId) → ¬ (Names (told_by self.now).above word.entry.text.now m)) }
     {
         match numbered(word.text) {
             Some(row) => Ok(ModuleId(row)),
@@ -85,8 +105,8 @@ impl<'a> Reader<'a> {
         at: Known,
         raw: RawVisibility<'a>,
     ) -> Result<Visibility, Complaint>
-        ensures { MatchResult result (Tells self.now.by_name at raw.entry)
-            (λ _. (v : Visibility) → ¬ (Tells self.now.by_name at raw.entry v)) }
+        ensures { MatchResult result (Tells (told_by self.now).above at raw.entry)
+            (λ _. (v : Visibility) → ¬ (Tells (told_by self.now).above at raw.entry v)) }
     {
         match raw {
             RawVisibility::Public => Ok(Visibility::Public),
@@ -102,30 +122,45 @@ impl<'a> Reader<'a> {
         }
     }
 
+    // Where an item or an import stands.
+    pub(crate) fn place(&self, site: Site<'a>) -> Result<Place<'a>, Complaint>
+        ensures stands { IfOk result (λ p. Stands (told_by self.now).above site.entry p.known p.vis) }
+        ensures module { IfOk result (λ p. p.«module».now ≡ site.entry.«module».text.now) }
+        ensures refused { IfErr result (λ _. (at : Known) (v : Visibility) → ¬ (Stands (told_by self.now).above site.entry at v)) }
+    {
+        let known = self.known(site.module)?;
+        Ok(Place {
+            known,
+            module: text_of(site.module)?,
+            vis: self.visibility(known, site.vis)?,
+        })
+    }
+
     // An item, and the module that it stands in.
     pub(crate) fn add_item(
         &mut self,
         site: Site<'a>,
-    ) -> Result<(Known, Visibility), Failure<Trouble>>
-        ensures added { IfOk result (λ p. AddsItem self.old site.entry p.0 p.1 self.new) }
+    ) -> Result<(Listed<'a>, Place<'a>), Failure<Trouble>>
+        ensures added { IfOk result (λ p. AddsItem (told_by self.old) site.entry p.1.known p.1.vis p.0.number (told_by self.new)) }
+        ensures name { IfOk result (λ p. (p.0.word ≡ site.entry.name) × (p.0.text.now ≡ site.entry.name.text.now)) }
+        ensures module { IfOk result (λ p. p.1.«module».now ≡ site.entry.«module».text.now) }
         ensures refused { OnRefused result ((at : Known) → (v : Visibility) →
-            ¬ (MayStand self.old.by_name site.entry at v)) }
+            ¬ (MayStand (told_by self.old).above site.entry at v)) }
     {
-        let (name, _) = self.list_name(site.name)?;
-        let at = self.known(site.module)?;
-        let vis = self.visibility(at, site.vis)?;
+        let place = self.place(site)?;
+        let name = self.list_name(site.name)?;
         self.firmware.items.push(Declared {
-            name,
-            module: text_of(site.module)?,
-            vis,
+            name: name.text,
+            module: place.module,
+            vis: place.vis,
         })?;
-        Ok((at, vis))
+        Ok((name, place))
     }
 
     // What is asked of a path, if anyone asks it.
     fn question(&self, asking: Option<Asking<'a>>) -> Result<Option<Question>, Complaint>
-        ensures { MatchResult result (Asks self.now.by_name asking.entry)
-            (λ _. (q : Option Question) → ¬ (Asks self.now.by_name asking.entry q)) }
+        ensures { MatchResult result (Asks (told_by self.now).above asking.entry)
+            (λ _. (q : Option Question) → ¬ (Asks (told_by self.now).above asking.entry q)) }
     {
         match asking {
             Some(asking) => Ok(Some(asking.question(self.known(asking.module)?.id))),
@@ -138,8 +173,8 @@ impl<'a> Reader<'a> {
         text: Word<'a>,
         asking: Option<Asking<'a>>,
     ) -> Result<(), Failure<Trouble>>
-        ensures added { OnOk result (AddsPath self.old text.entry asking.entry self.new) }
-        ensures refused { OnRefused result (NoReader (AddsPath self.old text.entry asking.entry)) }
+        ensures added { OnOk result (AddsPath (told_by self.old) text.entry asking.entry (told_by self.new)) }
+        ensures refused { OnRefused result (NoOutcome (AddsPath (told_by self.old) text.entry asking.entry)) }
     {
         let question = self.question(asking)?;
         self.firmware.paths.push(text)?;

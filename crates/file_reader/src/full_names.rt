@@ -49,7 +49,7 @@ impl<'a> Reader<'a> {
         entries: PerNs,
     ) -> Result<(), AllocError>
         ensures told { told_by self.new ≡ record (told_by self.old) { declared = self.new.declared } }
-        ensures declared { OnOk result (DeclaresAs self.old within.entry name.entry entries self.new) }
+        ensures declared { OnOk result (DeclaresAs (told_by self.old) within.entry name.entry entries (told_by self.new)) }
     {
         let part = self.part();
         let known = self.declared_in(part, within, name).or(entries);
@@ -84,7 +84,7 @@ impl<'a> Reader<'a> {
     // What the base declares with a full name, and the models of the last one's pile.
     #[tactic(auto, unfolding(crate::specs::FullNames::declared_in_all))]
     fn declared_in_pile(&self, within: &'a [u8], name: &'a [u8]) -> PerNs
-        ensures { result ≡ entries_above (declared_above self.now) within.now name.now }
+        ensures { result ≡ entries_above (declared_above (told_by self.now)) within.now name.now }
     {
         match self.firmware.models.last() {
             Some(model) => self.declared_in_parts(model.pile, within, name),
@@ -95,7 +95,7 @@ impl<'a> Reader<'a> {
     // What the file declares above with that full name and a kind, in the base or in the pile; a crate too.
     #[tactic(auto, unfolding(crate::specs::FullNames::meaning))]
     pub(crate) fn declared_as(&self, word: Word<'a>) -> Result<PerNs, Complaint>
-        ensures { result_ok result ≡ meaning (declared_above self.now) word.entry.text.now }
+        ensures { result_ok result ≡ meaning (declared_above (told_by self.now)) word.entry.text.now }
     {
         let Ok((outer, name)) = split(word) else {
             let def = ModuleDefId::ModuleId(self.known(word)?.id);

@@ -1,15 +1,15 @@
 // What the statements of items, macros, imports and preludes add to a file's tables and deliveries.
-ghost use Rattle.std.specs.Prelude.{◌≡◌, ◌++◌, ◌∷◌, [], IfOk, MatchResult, OnOk, length, vec_items};
+ghost use Rattle.std.specs.Prelude.{◌≡◌, ◌++◌, IfOk, MatchResult, OnOk, length};
 ghost use Rattle.std.specs.Result.{result_ok};
-ghost use Rattle.file_reader.specs.Definitions.{Grows, Keeps, items_of};
-ghost use Rattle.firmware.specs.declared.definition.Standing.TheVariants.{Place};
+ghost use Rattle.file_reader.specs.Definitions.{counted, define, defined_as, imports_of, keep, keep_import, kept, styles_of};
 ghost use Rattle.file_reader.specs.FullNames.{declared_above, enum_in, enum_meant, imported, macro_meant};
-ghost use Rattle.file_reader.specs.Refusals.{NoReader, OnRefused};
-ghost use Rattle.file_reader.specs.Statements.{crate_of, imports_of};
-ghost use Rattle.file_reader.specs.Tables.{defined_as, Defines, AddsDefinition, AddsExternPrelude, AddsImport, AddsLegacy, AddsLegacyOf, AddsMacroUse, AddsPrelude, AddsVariant, IsMap, MayDefine};
-ghost use Rattle.file_reader.specs.Told.{rows};
+ghost use Rattle.file_reader.specs.Refusals.{IsRowNumber, NoOutcome, OnRefused};
+ghost use Rattle.file_reader.specs.Statements.{crate_of};
+ghost use Rattle.file_reader.specs.Tables.{AddsDefinition, AddsExternPrelude, AddsImport, AddsLegacy, AddsLegacyOf, AddsMacroUse, AddsPrelude, AddsVariant, IsMap};
+ghost use Rattle.file_reader.specs.Told.{table, told_by, with_row};
 ghost use Rattle.item_scope.specs.declared.index_data.DefMapId.{DefMapId};
 
+use crate::adding::Listed;
 use crate::reader::Reader;
 use entries::per_ns::PerNs;
 use entries::visibility::Visibility;
@@ -36,33 +36,30 @@ fn tell<'a, K: Copy, V: Copy>(
     value: V,
     word: Word<'a>,
 ) -> Result<(), AllocError>
-    ensures row { OnOk result (rows told.new ≡ rows told.old ++ record { key = key; value = value } ∷ []) }
-    ensures word { OnOk result (vec_items told.new.words ≡ vec_items told.old.words ++ word.entry ∷ []) }
+    ensures { OnOk result (table told.new ≡ with_row (table told.old) key value word.entry) }
 {
     told.words.push(word)?;
     told.rows.push(Row { key, value })?;
     Ok(())
 }
 
-// The statements of a kind.
-fn of_kind<'d, 'a>(definitions: &'d Definitions<'a>, kind: ItemKind) -> &'d [Definition<'a>]
-    ensures { result.now ≡ defined_as definitions.now kind }
+// How many are counted with those of a kind.
+fn count_of_kind(definitions: &Definitions, kind: ItemKind) -> usize
+    ensures { result ≡ length (defined_as (counted definitions.now) kind) }
 {
     match kind {
-        ItemKind::Enum => definitions.enums.as_slice(),
-        ItemKind::Macro(_) => definitions.macros.as_slice(),
-        _ => definitions.others.as_slice(),
+        ItemKind::Enum => definitions.enums.len(),
+        ItemKind::Macro(_) => definitions.macros.len(),
+        _ => definitions.others.len(),
     }
 }
 
-// Adds a statement to those of a kind.
 fn add_to_kind<'a>(
     definitions: &mut Definitions<'a>,
     kind: ItemKind,
     definition: Definition<'a>,
 ) -> Result<(), AllocError>
-    ensures grows { OnOk result (Grows definitions.old kind definition.entry definitions.new) }
-    ensures items { definitions.new.of_a_kind ≡ definitions.old.of_a_kind }
+    ensures { OnOk result (counted definitions.new ≡ keep (counted definitions.old) kind (kept definition.entry)) }
 {
     match kind {
         ItemKind::Enum => definitions.enums.push(definition)?,
@@ -72,34 +69,44 @@ fn add_to_kind<'a>(
     Ok(())
 }
 
-// The statements of the imports of a kind.
-fn of_imports<'d, 'a>(
-    definitions: &'d mut Definitions<'a>,
-    bringing: Bringing,
-) -> &'d mut Vec<Definition<'a>>
-    ensures { vec_items result.now ≡ imports_of definitions.old bringing }
+fn count_imports(definitions: &Definitions, bringing: Bringing) -> usize
+    ensures { result ≡ length (imports_of (counted definitions.now) bringing) }
 {
     match bringing {
-        Bringing::Named => &mut definitions.imports,
-        Bringing::Glob => &mut definitions.globs,
-        Bringing::ExternCrate => &mut definitions.extern_crates,
+        Bringing::Named => definitions.imports.len(),
+        Bringing::Glob => definitions.globs.len(),
+        Bringing::ExternCrate => definitions.extern_crates.len(),
     }
 }
 
-// The enum among the entries of a name, and who sees it.
-fn enum_in(entries: PerNs) -> Option<(EnumId, Visibility)>
+fn add_import<'a>(
+    definitions: &mut Definitions<'a>,
+    bringing: Bringing,
+    definition: Definition<'a>,
+) -> Result<(), AllocError>
+    ensures { OnOk result (counted definitions.new ≡ keep_import (counted definitions.old) bringing (kept definition.entry)) }
+{
+    match bringing {
+        Bringing::Named => definitions.imports.push(definition)?,
+        Bringing::Glob => definitions.globs.push(definition)?,
+        Bringing::ExternCrate => definitions.extern_crates.push(definition)?,
+    }
+    Ok(())
+}
+
+// The enum among the entries of a name.
+fn enum_in(entries: PerNs) -> Option<EnumId>
     ensures { result ≡ enum_in entries }
 {
-    let item = entries.types?;
-    match item.def {
-        ModuleDefId::AdtId(AdtId::EnumId(id)) => Some((id, item.vis)),
+    match entries.types?.def {
+        ModuleDefId::AdtId(AdtId::EnumId(id)) => Some(id),
         _ => None,
     }
 }
 
 impl<'a> Reader<'a> {
     fn macro_of(&self, word: Word<'a>) -> Result<MacroId, Complaint>
-        ensures { result_ok result ≡ macro_meant (declared_above self.now) word.entry.text.now }
+        ensures { result_ok result ≡ macro_meant (declared_above (told_by self.now)) word.entry.text.now }
     {
         match self.declared_as(word)?.macros {
             Some(item) => Ok(item.def),
@@ -111,8 +118,8 @@ impl<'a> Reader<'a> {
         }
     }
 
-    fn enum_of(&self, word: Word<'a>) -> Result<(EnumId, Visibility), Complaint>
-        ensures { result_ok result ≡ enum_meant (declared_above self.now) word.entry.text.now }
+    fn enum_of(&self, word: Word<'a>) -> Result<EnumId, Complaint>
+        ensures { result_ok result ≡ enum_meant (declared_above (told_by self.now)) word.entry.text.now }
     {
         enum_in(self.declared_as(word)?).ok_or(Complaint::at(
             word,
@@ -122,7 +129,7 @@ impl<'a> Reader<'a> {
     }
 
     fn crate_of(&self, word: Word<'a>) -> Result<(CrateId, ModuleId), Complaint>
-        ensures { result_ok result ≡ crate_of self.now.by_name word.entry.text.now }
+        ensures { result_ok result ≡ crate_of (told_by self.now).above word.entry.text.now }
     {
         let known = self.known(word)?;
         match known.root_of {
@@ -136,8 +143,8 @@ impl<'a> Reader<'a> {
     }
 
     fn map_of(&self, word: Word<'a>) -> Result<DefMapId, Complaint>
-        ensures { MatchResult result (IsMap self.now.by_name word.entry.text.now)
-            (λ _. (m : DefMapId) → ¬ (IsMap self.now.by_name word.entry.text.now m)) }
+        ensures { MatchResult result (IsMap (told_by self.now).above word.entry.text.now)
+            (λ _. (m : DefMapId) → ¬ (IsMap (told_by self.now).above word.entry.text.now m)) }
     {
         self.known(word)?.root_of.ok_or(Complaint::at(
             word,
@@ -151,23 +158,26 @@ impl<'a> Reader<'a> {
         &mut self,
         kind: ItemKind,
         standing: Standing,
-        name: Word<'a>,
-        within: Word<'a>,
+        name: Listed<'a>,
+        within: &'a str,
     ) -> Result<u32, Failure<Trouble>>
-        ensures numbered { IfOk result (λ n. Defines self.old kind n self.new) }
-        ensures kept { OnOk result (Keeps self.old.firmware.definitions kind name.entry within.entry standing self.new.firmware.definitions) }
-        ensures texts { OnOk result (MayDefine self.old.firmware.definitions kind name.entry within.entry) }
-        ensures refused { OnRefused result (¬ (MayDefine self.old.firmware.definitions kind name.entry within.entry)) }
-        ensures listed { IfOk result (λ n. vec_items self.new.firmware.definitions.of_a_kind ≡ vec_items self.old.firmware.definitions.of_a_kind ++ items_of kind n) }
+        ensures numbered { IfOk result (λ n. n ≡ length (defined_as (told_by self.old).definitions kind)) }
+        ensures told { OnOk result (told_by self.new ≡ record (told_by self.old) {
+          definitions = define (told_by self.old).definitions kind
+              (record { within = within.entry.now; name = name.entry.text.now; line = name.entry.word.line; standing = standing });
+          styles = (told_by self.old).styles ++ styles_of kind;
+        }) }
+        ensures number { OnOk result (IsRowNumber (length (defined_as (told_by self.old).definitions kind))) }
+        ensures refused { OnRefused result (¬ (IsRowNumber (length (defined_as (told_by self.old).definitions kind)))) }
     {
         let definition = Definition {
-            within: text_of(within)?,
-            name: text_of(name)?,
-            line: name.line,
+            within,
+            name: name.text,
+            line: name.word.line,
             standing,
         };
-        let told = of_kind(&self.firmware.definitions, kind);
-        let number = row_number(name, told.len())?;
+        let count = count_of_kind(&self.firmware.definitions, kind);
+        let number = row_number(name.word, count)?;
         add_to_kind(&mut self.firmware.definitions, kind, definition)?;
         if let ItemKind::Macro(styles) = kind {
             self.firmware.tables.styles.push(styles)?;
@@ -184,92 +194,95 @@ impl<'a> Reader<'a> {
         kind: ItemKind,
         site: Site<'a>,
     ) -> Result<(), Failure<Trouble>>
-        ensures added { OnOk result (AddsDefinition self.old kind site.entry self.new) }
-        ensures refused { OnRefused result (NoReader (AddsDefinition self.old kind site.entry)) }
-        ensures kept { OnOk result (Keeps self.old.firmware.definitions kind site.entry.name site.entry.«module» Place self.new.firmware.definitions) }
-        ensures listed { OnOk result (vec_items self.new.firmware.definitions.of_a_kind ≡ vec_items self.old.firmware.definitions.of_a_kind ++ items_of kind (length (defined_as self.old.firmware.definitions kind))) }
+        ensures added { OnOk result (AddsDefinition (told_by self.old) kind site.entry (told_by self.new)) }
+        ensures refused { OnRefused result (NoOutcome (AddsDefinition (told_by self.old) kind site.entry)) }
     {
-        let (at, vis) = self.add_item(site)?;
-        let number = self.define(kind, Standing::Place, site.name, site.module)?;
-        let entries = kind.entries(number, vis);
+        let (name, place) = self.add_item(site)?;
+        let number = self.define(kind, Standing::Place, name, place.module)?;
+        let entries = kind.entries(number, place.vis);
         self.declare(site.module.text, site.name.text, entries)?;
-        self.deliver(at.id, site.name, site.module, entries, None)
+        Ok(self.deliver(place.known.id, name, place.module, entries, None)?)
     }
 
-    /// A variant of an enum, which is delivered nowhere: it is as visible as the enum.
+    /// A variant of an enum, which is delivered nowhere.
     pub(crate) fn add_variant(
         &mut self,
         word: Word<'a>,
         shape: Shape,
     ) -> Result<(), Failure<Trouble>>
-        ensures added { OnOk result (AddsVariant self.old word.entry shape self.new) }
-        ensures refused { OnRefused result (NoReader (AddsVariant self.old word.entry shape)) }
+        ensures added { OnOk result (AddsVariant (told_by self.old) word.entry shape (told_by self.new)) }
+        ensures refused { OnRefused result (NoOutcome (AddsVariant (told_by self.old) word.entry shape)) }
     {
-        let (outer, name) = split(word)?;
-        let (_, number) = self.list_name(name)?;
-        let (of, vis) = self.enum_of(outer)?;
+        let (outer, own) = split(word)?;
+        let of = self.enum_of(outer)?;
+        let within = text_of(outer)?;
+        let name = self.list_name(own)?;
         let kind = ItemKind::Variant(shape);
-        let variant = self.define(kind, Standing::Variant(of), name, outer)?;
+        let variant = self.define(kind, Standing::Variant(of), name, within)?;
         let row = EnumVariant {
             variant: EnumVariantId(variant),
             has_constructor: shape.has_constructor(),
         };
-        let key = EnumName { of, name: number };
+        let key = EnumName {
+            of,
+            name: name.number,
+        };
         tell(&mut self.firmware.tables.variants, key, row, word)?;
-        Ok(self.declare(outer.text, name.text, kind.entries(variant, vis))?)
+        let entries = kind.entries(variant, Visibility::Public);
+        Ok(self.declare(outer.text, own.text, entries)?)
     }
 
     /// A `macro_rules!` macro, which is called by its name alone: it is delivered nowhere.
     pub(crate) fn add_legacy(
         &mut self,
-        name: Word<'a>,
+        word: Word<'a>,
         module: Word<'a>,
     ) -> Result<(), Failure<Trouble>>
-        ensures added { OnOk result (AddsLegacy self.old name.entry «module».entry self.new) }
-        ensures refused { OnRefused result (NoReader (AddsLegacy self.old name.entry «module».entry)) }
+        ensures added { OnOk result (AddsLegacy (told_by self.old) word.entry «module».entry (told_by self.new)) }
+        ensures refused { OnRefused result (NoOutcome (AddsLegacy (told_by self.old) word.entry «module».entry)) }
     {
         let at = self.known(module)?.id;
-        let (_, number) = self.list_name(name)?;
+        let within = text_of(module)?;
+        let name = self.list_name(word)?;
         let styles = CallStyles {
             fn_like: true,
             attr: false,
             derive: false,
         };
-        let def = MacroId(self.define(ItemKind::Macro(styles), Standing::Apart, name, module)?);
+        let def = MacroId(self.define(ItemKind::Macro(styles), Standing::Apart, name, within)?);
         tell(
             &mut self.firmware.tables.legacy,
-            ModuleName { at, name: number },
+            ModuleName {
+                at,
+                name: name.number,
+            },
             def,
-            name,
+            word,
         )?;
         let entries = PerNs::macros(def, Visibility::Public, None);
-        Ok(self.declare(module.text, name.text, entries)?)
+        Ok(self.declare(module.text, word.text, entries)?)
     }
 
     /// A name by which a macro declared above is called in one more module.
     pub(crate) fn add_legacy_of(
         &mut self,
-        name: Word<'a>,
+        word: Word<'a>,
         module: Word<'a>,
         meant: Word<'a>,
     ) -> Result<(), Failure<Trouble>>
-        ensures added { OnOk result (AddsLegacyOf self.old name.entry «module».entry meant.entry self.new) }
-        ensures refused { OnRefused result (NoReader (AddsLegacyOf self.old name.entry «module».entry meant.entry)) }
+        ensures added { OnOk result (AddsLegacyOf (told_by self.old) word.entry «module».entry meant.entry (told_by self.new)) }
+        ensures refused { OnRefused result (NoOutcome (AddsLegacyOf (told_by self.old) word.entry «module».entry meant.entry)) }
     {
         let at = self.known(module)?.id;
-        let (_, number) = self.list_name(name)?;
         let def = self.macro_of(meant)?;
-        Ok(tell(
-            &mut self.firmware.tables.legacy,
-            ModuleName { at, name: number },
-            def,
-            name,
-        )?)
+        let name = self.list_name(word)?.number;
+        let key = ModuleName { at, name };
+        Ok(tell(&mut self.firmware.tables.legacy, key, def, word)?)
     }
 
     // What an import of that kind brings by a full name.
     fn imported(&self, bringing: Bringing, full: Word<'a>) -> Result<PerNs, Complaint>
-        ensures { result_ok result ≡ imported (declared_above self.now) bringing full.entry.text.now }
+        ensures { result_ok result ≡ imported (declared_above (told_by self.now)) bringing full.entry.text.now }
     {
         match bringing {
             Bringing::ExternCrate => {
@@ -288,71 +301,62 @@ impl<'a> Reader<'a> {
         full: Word<'a>,
         site: Site<'a>,
     ) -> Result<(), Failure<Trouble>>
-        ensures added { OnOk result (AddsImport self.old bringing full.entry site.entry self.new) }
-        ensures refused { OnRefused result (NoReader (AddsImport self.old bringing full.entry site.entry)) }
+        ensures added { OnOk result (AddsImport (told_by self.old) bringing full.entry site.entry (told_by self.new)) }
+        ensures refused { OnRefused result (NoOutcome (AddsImport (told_by self.old) bringing full.entry site.entry)) }
     {
-        let at = self.known(site.module)?;
-        let vis = self.visibility(at, site.vis)?;
-        let entries = with_visibility(self.imported(bringing, full)?, vis);
+        let place = self.place(site)?;
+        let entries = with_visibility(self.imported(bringing, full)?, place.vis);
+        let count = count_imports(&self.firmware.definitions, bringing);
+        let import = bringing.import(row_number(full, count)?);
+        let name = self.list_name(site.name)?;
         let definition = Definition {
-            within: text_of(site.module)?,
-            name: text_of(site.name)?,
-            line: full.line,
+            within: place.module,
+            name: name.text,
+            line: name.word.line,
             standing: Standing::Place,
         };
-        let told = of_imports(&mut self.firmware.definitions, bringing);
-        let import = bringing.import(row_number(full, told.len())?);
-        told.push(definition)?;
-        self.deliver(at.id, site.name, site.module, entries, Some(import))
+        add_import(&mut self.firmware.definitions, bringing, definition)?;
+        Ok(self.deliver(place.known.id, name, place.module, entries, Some(import))?)
     }
 
     pub(crate) fn add_extern_prelude(
         &mut self,
-        name: Word<'a>,
+        word: Word<'a>,
         krate: Word<'a>,
         meant: Word<'a>,
     ) -> Result<(), Failure<Trouble>>
-        ensures added { OnOk result (AddsExternPrelude self.old name.entry krate.entry meant.entry self.new) }
-        ensures refused { OnRefused result (NoReader (AddsExternPrelude self.old name.entry krate.entry meant.entry)) }
+        ensures added { OnOk result (AddsExternPrelude (told_by self.old) word.entry krate.entry meant.entry (told_by self.new)) }
+        ensures refused { OnRefused result (NoOutcome (AddsExternPrelude (told_by self.old) word.entry krate.entry meant.entry)) }
     {
-        let (_, number) = self.list_name(name)?;
-        let (of, _) = self.crate_of(krate)?;
+        let (krate, _) = self.crate_of(krate)?;
         let (_, module) = self.crate_of(meant)?;
-        Ok(tell(
-            &mut self.firmware.tables.extern_prelude,
-            CrateName {
-                krate: of,
-                name: number,
-            },
-            ExternPrelude {
-                module,
-                extern_crate: None,
-            },
-            name,
-        )?)
+        let name = self.list_name(word)?.number;
+        let key = CrateName { krate, name };
+        let row = ExternPrelude {
+            module,
+            extern_crate: None,
+        };
+        Ok(tell(&mut self.firmware.tables.extern_prelude, key, row, word)?)
     }
 
     pub(crate) fn add_macro_use(
         &mut self,
-        name: Word<'a>,
+        word: Word<'a>,
         map: Word<'a>,
         meant: Word<'a>,
     ) -> Result<(), Failure<Trouble>>
-        ensures added { OnOk result (AddsMacroUse self.old name.entry map.entry meant.entry self.new) }
-        ensures refused { OnRefused result (NoReader (AddsMacroUse self.old name.entry map.entry meant.entry)) }
+        ensures added { OnOk result (AddsMacroUse (told_by self.old) word.entry map.entry meant.entry (told_by self.new)) }
+        ensures refused { OnRefused result (NoOutcome (AddsMacroUse (told_by self.old) word.entry map.entry meant.entry)) }
     {
-        let (_, number) = self.list_name(name)?;
         let map = self.map_of(map)?;
         let def = self.macro_of(meant)?;
-        Ok(tell(
-            &mut self.firmware.tables.macro_use,
-            MapName { map, name: number },
-            MacroUse {
-                def,
-                extern_crate: None,
-            },
-            name,
-        )?)
+        let name = self.list_name(word)?.number;
+        let key = MapName { map, name };
+        let row = MacroUse {
+            def,
+            extern_crate: None,
+        };
+        Ok(tell(&mut self.firmware.tables.macro_use, key, row, word)?)
     }
 
     pub(crate) fn add_prelude(
@@ -360,8 +364,8 @@ impl<'a> Reader<'a> {
         module: Word<'a>,
         map: Word<'a>,
     ) -> Result<(), Failure<Trouble>>
-        ensures added { OnOk result (AddsPrelude self.old «module».entry map.entry self.new) }
-        ensures refused { OnRefused result (NoReader (AddsPrelude self.old «module».entry map.entry)) }
+        ensures added { OnOk result (AddsPrelude (told_by self.old) «module».entry map.entry (told_by self.new)) }
+        ensures refused { OnRefused result (NoOutcome (AddsPrelude (told_by self.old) «module».entry map.entry)) }
     {
         let of = self.map_of(map)?;
         let prelude = self.known(module)?.id;

@@ -2,8 +2,9 @@
 ghost use Rattle.std.specs.Prelude.{◌≡◌, OnOk, vec_items};
 ghost use Rattle.std.specs.Result.{result_ok};
 ghost use Rattle.file_reader.specs.Models.{part_of, pile_over};
-ghost use Rattle.file_reader.specs.Refusals.{NoReader, OnRefused};
+ghost use Rattle.file_reader.specs.Refusals.{NoOutcome, OnRefused};
 ghost use Rattle.file_reader.specs.Tables.{AddsModel};
+ghost use Rattle.file_reader.specs.Told.{told_by};
 
 use crate::reader::Reader;
 use firmware::models::Model;
@@ -54,8 +55,8 @@ impl<'a> Reader<'a> {
         word: Word<'a>,
         below: Option<Word<'a>>,
     ) -> Result<(), Failure<Trouble>>
-        ensures added { OnOk result (AddsModel self.old word.entry below.entry self.new) }
-        ensures refused { OnRefused result (NoReader (AddsModel self.old word.entry below.entry)) }
+        ensures added { OnOk result (AddsModel (told_by self.old) word.entry below.entry (told_by self.new)) }
+        ensures refused { OnRefused result (NoOutcome (AddsModel (told_by self.old) word.entry below.entry)) }
     {
         if self.model_numbers.contains_key(word.text) {
             return Err(Failure::from(Complaint::at(

@@ -1,8 +1,9 @@
 // What the statements of crates, modules and blocks add to a file's tree.
-ghost use Rattle.std.specs.Prelude.{IfOk, OnOk};
+ghost use Rattle.std.specs.Prelude.{◌≡◌, IfOk, OnOk};
 ghost use Rattle.std.specs.Str.{IsUtf8};
-ghost use Rattle.file_reader.specs.Refusals.{NoReader, OnRefused};
-ghost use Rattle.file_reader.specs.Tables.{AddsBlock, AddsCrate, AddsInner, AddsModule, MayDeclare};
+ghost use Rattle.file_reader.specs.Refusals.{NoOutcome, OnRefused};
+ghost use Rattle.file_reader.specs.Tables.{AddsBlock, AddsCrate, AddsInner, AddsModule, MayDeclare, standing_of};
+ghost use Rattle.file_reader.specs.Told.{told_by};
 
 use crate::reader::{Known, Reader};
 use entries::per_ns::PerNs;
@@ -23,15 +24,15 @@ impl<'a> Reader<'a> {
     fn add_module(
         &mut self,
         word: Word<'a>,
-        within: Word<'a>,
-        name: Word<'a>,
+        within: &'a str,
+        name: &'a str,
         row: ModuleRow,
         root_of: Option<DefMapId>,
     ) -> Result<ModuleId, Failure<Trouble>>
-        ensures added { IfOk result (λ id. AddsModule self.old word.entry row root_of id self.new) }
-        ensures texts { OnOk result (IsUtf8 within.entry.text.now × IsUtf8 name.entry.text.now) }
-        ensures refused { OnRefused result (¬ (MayDeclare self.old word.entry
-            × IsUtf8 within.entry.text.now × IsUtf8 name.entry.text.now)) }
+        ensures added { IfOk result (λ id. AddsModule (told_by self.old) word.entry
+            (record { within = within.entry.now; name = name.entry.now; line = word.entry.line; standing = standing_of root_of })
+            row root_of id (told_by self.new)) }
+        ensures refused { OnRefused result (¬ (MayDeclare (told_by self.old) word.entry)) }
     {
         if self.by_name.contains_key(word.text) {
             return Err(Failure::from(Complaint::at(
@@ -44,8 +45,8 @@ impl<'a> Reader<'a> {
         self.firmware.names.push(text_of(word)?)?;
         self.firmware.modules.push(row)?;
         self.firmware.definitions.modules.push(Definition {
-            within: text_of(within)?,
-            name: text_of(name)?,
+            within,
+            name,
             line: word.line,
             standing: match root_of {
                 Some(_) => Standing::Apart,
@@ -67,10 +68,10 @@ impl<'a> Reader<'a> {
         word: Word<'a>,
         edition: Edition,
     ) -> Result<(), Failure<Trouble>>
-        ensures added { OnOk result (AddsCrate self.old word.entry edition self.new) }
-        ensures refused { OnRefused result (NoReader (AddsCrate self.old word.entry edition)) }
+        ensures added { OnOk result (AddsCrate (told_by self.old) word.entry edition (told_by self.new)) }
+        ensures refused { OnRefused result (NoOutcome (AddsCrate (told_by self.old) word.entry edition)) }
     {
-        self.list_name(word)?;
+        let name = self.list_name(word)?;
         let krate = CrateId(row_number(word, self.firmware.crates.len())?);
         let root = ModuleId(row_number(word, self.firmware.modules.len())?);
         self.firmware.crates.push(CrateRow { root, edition })?;
@@ -79,8 +80,7 @@ impl<'a> Reader<'a> {
             block: None,
             parent: None,
         };
-        let within = Word { text: b"", ..word };
-        self.add_module(word, within, word, row, Some(DefMapId::Crate(krate)))?;
+        self.add_module(word, "", name.text, row, Some(DefMapId::Crate(krate)))?;
         Ok(())
     }
 
@@ -90,31 +90,33 @@ impl<'a> Reader<'a> {
         word: Word<'a>,
         raw: RawVisibility<'a>,
     ) -> Result<(), Failure<Trouble>>
-        ensures added { OnOk result (AddsInner self.old word.entry raw.entry self.new) }
-        ensures refused { OnRefused result (NoReader (AddsInner self.old word.entry raw.entry)) }
+        ensures added { OnOk result (AddsInner (told_by self.old) word.entry raw.entry (told_by self.new)) }
+        ensures refused { OnRefused result (NoOutcome (AddsInner (told_by self.old) word.entry raw.entry)) }
     {
-        let (outer, name) = split(word)?;
-        self.list_name(name)?;
+        let (outer, own) = split(word)?;
         let parent = self.known(outer)?;
+        let within = text_of(outer)?;
+        let name = self.list_name(own)?;
         let vis = self.visibility(parent, raw)?;
         let row = ModuleRow {
             krate: parent.krate,
             block: parent.block,
             parent: Some(parent.id),
         };
-        let id = self.add_module(word, outer, name, row, None)?;
+        let id = self.add_module(word, within, name.text, row, None)?;
         let entries = PerNs::types(ModuleDefId::ModuleId(id), vis, None);
-        self.declare(outer.text, name.text, entries)?;
-        self.deliver(parent.id, name, outer, entries, None)
+        self.declare(outer.text, own.text, entries)?;
+        Ok(self.deliver(parent.id, name, within, entries, None)?)
     }
 
     pub(crate) fn add_block(&mut self, word: Word<'a>) -> Result<(), Failure<Trouble>>
-        ensures added { OnOk result (AddsBlock self.old word.entry self.new) }
-        ensures refused { OnRefused result (NoReader (AddsBlock self.old word.entry)) }
+        ensures added { OnOk result (AddsBlock (told_by self.old) word.entry (told_by self.new)) }
+        ensures refused { OnRefused result (NoOutcome (AddsBlock (told_by self.old) word.entry)) }
     {
-        let (outer, name) = split(word)?;
-        self.list_name(name)?;
+        let (outer, own) = split(word)?;
         let outside = self.known(outer)?;
+        let within = text_of(outer)?;
+        let name = self.list_name(own)?;
         let block = BlockId(row_number(word, self.firmware.blocks.len())?);
         let root = ModuleId(row_number(word, self.firmware.modules.len())?);
         self.firmware.blocks.push(BlockRow {
@@ -126,7 +128,7 @@ impl<'a> Reader<'a> {
             block: Some(block),
             parent: None,
         };
-        self.add_module(word, outer, name, row, Some(DefMapId::Block(block)))?;
+        self.add_module(word, within, name.text, row, Some(DefMapId::Block(block)))?;
         Ok(())
     }
 }

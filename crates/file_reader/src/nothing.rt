@@ -1,7 +1,8 @@
 // A file that declares nothing yet.
-ghost use Rattle.std.specs.Prelude.{◌≡◌, [], IfOk};
-ghost use Rattle.file_reader.specs.Nothing.{Undefined, Untold, TellsNothing};
-ghost use Rattle.file_reader.specs.Told.{rows};
+ghost use Rattle.std.specs.Prelude.{◌≡◌, IfOk};
+ghost use Rattle.file_reader.specs.Definitions.{counted};
+ghost use Rattle.file_reader.specs.Nothing.{no_rows, no_statements, nothing_told};
+ghost use Rattle.file_reader.specs.Told.{Declarations, ModelNumbers, Modules, table, told};
 
 use firmware::definitions::Definitions;
 use firmware::file::Firmware;
@@ -10,7 +11,7 @@ use path_text::name_list::NameList;
 use std::alloc::{AllocError, Global};
 
 fn no_definitions<'a>(alloc: Global) -> Definitions<'a>
-    ensures { Undefined result }
+    ensures { counted result ≡ no_statements }
 {
     Definitions {
         modules: Vec::new(alloc),
@@ -25,7 +26,7 @@ fn no_definitions<'a>(alloc: Global) -> Definitions<'a>
 }
 
 fn no_rows<'a, K: Copy, V: Copy>(alloc: Global) -> RowsTold<'a, K, V>
-    ensures { rows result ≡ [] }
+    ensures { table result ≡ no_rows }
 {
     RowsTold {
         rows: Vec::new(alloc),
@@ -33,22 +34,10 @@ fn no_rows<'a, K: Copy, V: Copy>(alloc: Global) -> RowsTold<'a, K, V>
     }
 }
 
-fn no_tables<'a>(alloc: Global) -> IndexRows<'a>
-    ensures { Untold result }
-{
-    IndexRows {
-        extern_prelude: no_rows(alloc),
-        macro_use: no_rows(alloc),
-        preludes: no_rows(alloc),
-        legacy: no_rows(alloc),
-        variants: no_rows(alloc),
-        styles: Vec::new(alloc),
-    }
-}
-
 /// The built-in names stand in its list already.
 pub(crate) fn nothing<'a>(alloc: Global) -> Result<Firmware<'a>, AllocError>
-    ensures { IfOk result TellsNothing }
+    ensures { IfOk result (λ f. (above : Modules) (declared : Declarations) (numbers : ModelNumbers) →
+        told f above declared numbers ≡ nothing_told above declared numbers) }
 {
     Ok(Firmware {
         names: Vec::new(alloc),
@@ -58,7 +47,14 @@ pub(crate) fn nothing<'a>(alloc: Global) -> Result<Firmware<'a>, AllocError>
         items: Vec::new(alloc),
         definitions: no_definitions(alloc),
         deliveries: Vec::new(alloc),
-        tables: no_tables(alloc),
+        tables: IndexRows {
+            extern_prelude: no_rows(alloc),
+            macro_use: no_rows(alloc),
+            preludes: no_rows(alloc),
+            legacy: no_rows(alloc),
+            variants: no_rows(alloc),
+            styles: Vec::new(alloc),
+        },
         paths: Vec::new(alloc),
         questions: Vec::new(alloc),
         list: NameList::built_in(alloc)?,

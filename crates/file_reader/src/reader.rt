@@ -1,9 +1,10 @@
 // Reads a firmware file, statement by statement.
-ghost use Rattle.std.specs.Prelude.{IfOk, OnOk};
+ghost use Rattle.std.specs.Prelude.{◌≡◌, IfOk, OnOk};
 ghost use Rattle.file_reader.specs.Adding.{Adds};
 ghost use Rattle.file_reader.specs.Nothing.{IsNew};
-ghost use Rattle.file_reader.specs.Reading.{ReadsLine, Reads, RefusesFile, RefusesLine};
-ghost use Rattle.file_reader.specs.Refusals.{NoReader, OnRefused};
+ghost use Rattle.file_reader.specs.Reading.{ReadsLine, Reads, RefusesFile, RefusesLine, line_number};
+ghost use Rattle.file_reader.specs.Refusals.{NoOutcome, OnRefused};
+ghost use Rattle.file_reader.specs.Told.{told_by};
 
 use crate::models::below_a_model;
 use crate::nothing::nothing;
@@ -41,7 +42,7 @@ pub(crate) struct Reader<'a> {
 
 impl<'a> Reader<'a> {
     fn new(alloc: Global) -> Result<Reader<'a>, AllocError>
-        ensures { IfOk result IsNew }
+        ensures { IfOk result (λ r. IsNew (told_by r)) }
     {
         Ok(Reader {
             firmware: nothing(alloc)?,
@@ -53,8 +54,8 @@ impl<'a> Reader<'a> {
 
     // Adds what a statement tells.
     fn add(&mut self, statement: Statement<'a>) -> Result<(), Failure<Trouble>>
-        ensures added { OnOk result (Adds statement.entry self.old self.new) }
-        ensures refused { OnRefused result (NoReader (Adds statement.entry self.old)) }
+        ensures added { OnOk result (Adds statement.entry (told_by self.old) (told_by self.new)) }
+        ensures refused { OnRefused result (NoOutcome (Adds statement.entry (told_by self.old))) }
     {
         match statement {
             Statement::Crate(name, edition) => self.add_crate(name, edition),
@@ -83,8 +84,8 @@ impl<'a> Reader<'a> {
 
     // Adds what the line of that number tells.
     fn take_line(&mut self, line: &'a [u8], number: usize) -> Result<(), Failure<Trouble>>
-        ensures read { OnOk result (ReadsLine line.now self.old self.new) }
-        ensures refused { OnRefused result (RefusesLine line.now self.old) }
+        ensures read { OnOk result (ReadsLine number line.now (told_by self.old) (told_by self.new)) }
+        ensures refused { OnRefused result (RefusesLine number line.now (told_by self.old)) }
     {
         let Some((verb, statement)) = Statement::of(StatementWords::of(line, number))? else {
             return Ok(());
@@ -96,6 +97,13 @@ impl<'a> Reader<'a> {
     }
 }
 
+// Lines count from 1. The largest number stands for more.
+fn line_number(before: usize) -> usize
+    ensures { result ≡ line_number before }
+{
+    before.saturating_add(1)
+}
+
 /// Reads a whole file, or says what is wrong with its first bad line.
 pub fn read_firmware<'a>(alloc: Global, text: &'a [u8]) -> Result<Firmware<'a>, Failure<Trouble>>
     ensures read { IfOk result (Reads text.now) }
@@ -103,7 +111,7 @@ pub fn read_firmware<'a>(alloc: Global, text: &'a [u8]) -> Result<Firmware<'a>, 
 {
     let mut reader = Reader::new(alloc)?;
     for (i, line) in text.split(|b| *b == b'\n').enumerate() {
-        reader.take_line(line, i.saturating_add(1))?;
+        reader.take_line(line, line_number(i))?;
     }
     Ok(reader.firmware)
 }

@@ -1,10 +1,11 @@
-use Rattle.std.proofs.Common.{rules, tests, ℕ, List, ◌≡◌, ◌==◌, map, refl, sym, ap, subst, ◌∙◌}
+use Rattle.std.proofs.Common.{rules, tests, ℕ, List, ◌≡◌, ◌==◌, map, refl, sym, subst}
 use Rattle.std.specs.Borrow.{Bor}
 use Rattle.std.proofs.lemmas.Iterator.Consumers.{YieldsList-at, YieldsList-from_enumerate, YieldsList-end}
 use Rattle.std.proofs.lemmas.Iterator.Splits.{YieldsList-from_slice_split}
 use Rattle.std.proofs.lemmas.List.{map-append}
-use Rattle.file_reader.specs.Reading.{ReadsLines, Reads, RefusesFile, RefusesLine, lines_of}
-use Rattle.file_reader.proofs.Lines.{line_taken, reads_more, map-enumerate, map-values}
+use Rattle.file_reader.specs.Reading.{ReadsLine, ReadsLines, Reads, RefusesFile, RefusesLine, lines_of}
+use Rattle.file_reader.specs.Told.{told_by}
+use Rattle.file_reader.proofs.Lines.{line_at, line_taken, reads_more}
 use Rattle.file_reader.proofs.Refused.{passed}
 use Rattle.file_reader.proofs.reader.read_firmware.Goals as goal
 
@@ -16,8 +17,8 @@ loop-i-init c = refl
 -- src/reader.rt:101:5
 pub loop-i-preserved : goal.loop-i-preserved
 loop-i-preserved c =
-    subst (λ ls. ReadsLines c.in_ok-reader.reader ls c.take_line.new.self) (sym (map-append (λ p. p.1.now) c.loop-i.yielded _))
-    (reads_more _ _ _ _ _ c.loop-i.invariant c.in_ok-take_line.ensures.read)
+    subst (λ ls. ReadsLines (told_by c.in_ok-reader.reader) ls (told_by c.take_line.new.self)) (sym (map-append line_at c.loop-i.yielded _))
+    (reads_more _ _ _ _ _ c.loop-i.invariant (subst (λ n. ReadsLine n c.in-Some.line.now (told_by c.loop-i.reader) (told_by c.take_line.new.self)) c.line_number.ensures c.in_ok-take_line.ensures.read))
 
 -- src/reader.rt:97:1
 pub returns-clause-read : goal.returns-clause-read
@@ -29,8 +30,8 @@ returns-clause-read c =
     (YieldsList-from_slice_split _ (λ b. b == 10) c.args.text.now c.split.ensures.rest c.split.ensures.done c.split.ensures.closure (λ x b q k. search (rules, tests))))
     c.enumerate-i-items.ensures.count))
     c.loop-i.yielded _ c.loop-i.yielded_by _ _ c.in-None.is c.next.ensures.steps in
-    let lines : map (λ p. p.1.now) c.loop-i.yielded ≡ lines_of c.args.text.now = sym (map-values c.loop-i.yielded) ∙ ap (map (λ p. p.1)) end.0 ∙ map-enumerate 0 _ in
-    (c.in_ok-reader.reader, c.loop-i.reader, c.in_ok-reader.ensures, subst (λ ls. ReadsLines c.in_ok-reader.reader ls c.loop-i.reader) lines c.loop-i.invariant, refl)
+    let lines : map line_at c.loop-i.yielded ≡ lines_of c.args.text.now = end.0 in
+    (told_by c.in_ok-reader.reader, told_by c.loop-i.reader, c.in_ok-reader.ensures, subst (λ ls. ReadsLines (told_by c.in_ok-reader.reader) ls (told_by c.loop-i.reader)) lines c.loop-i.invariant, refl)
 
 -- src/reader.rt:106:9
 pub returns-in_err-take_line-clause-refused : goal.returns-in_err-take_line-clause-refused
@@ -43,6 +44,6 @@ returns-in_err-take_line-clause-refused c =
     (YieldsList-from_slice_split _ (λ b. b == 10) text c.split.ensures.rest c.split.ensures.done c.split.ensures.closure (λ x b q k. search (rules, tests))))
     c.enumerate-i-items.ensures.count))
     c.loop-i.yielded _ c.loop-i.yielded_by _ _ taken c.in-Some.is c.next.ensures.steps in
-    let why : RefusesLine c.in-Some.line.now c.loop-i.reader → RefusesFile text =
-    λ r. (_, _, _, c.in_ok-reader.reader, c.loop-i.reader, lines, c.in_ok-reader.ensures, c.loop-i.invariant, r) in
+    let why : RefusesLine c.line_number.result c.in-Some.line.now (told_by c.loop-i.reader) → RefusesFile text =
+    λ r. (_, line_at taken, _, told_by c.in_ok-reader.reader, told_by c.loop-i.reader, lines, c.in_ok-reader.ensures, c.loop-i.invariant, subst (λ n. RefusesLine n c.in-Some.line.now (told_by c.loop-i.reader)) c.line_number.ensures r) in
     passed c.take_line.result c.from_residual-in_err-take_line.result c.in_err-take_line.field-0.0 (search rules) (search rules) why c.take_line.ensures.refused

@@ -1,9 +1,19 @@
 use Rattle.std.proofs.Common.{◌≡◌, Option, Some, None, subst, sym}
 use Rattle.file_reader.specs.Adding.{Adds}
-use Rattle.file_reader.specs.Refusals.{NoReader, OnRefused}
+use Rattle.file_reader.specs.Refusals.{NoOutcome, OnRefused}
+use Rattle.file_reader.specs.Told.{told_by}
 use Rattle.source_text.specs.declared.words.Word.{Word}
 use Rattle.statements.specs.declared.statement.Statement.TheVariants as statement
 use Rattle.file_reader.proofs.reader.Reader.add.Goals as goal
+
+pub returns-in-Crate-clause-added : goal.returns-in-Crate-clause-added
+returns-in-Crate-clause-added c = rw c.in-Crate.is c.add_crate.ensures.added
+
+pub returns-in-Defined-clause-added : goal.returns-in-Defined-clause-added
+returns-in-Defined-clause-added c = rw c.in-Defined.is c.add_definition.ensures.added
+
+pub returns-in-Use-clause-added : goal.returns-in-Use-clause-added
+returns-in-Use-clause-added c = rw c.in-Use.is c.add_use.ensures.added
 
 pub returns-in-Module-clause-added : goal.returns-in-Module-clause-added
 returns-in-Module-clause-added c = rw c.in-Module.is c.add_inner.ensures.added
@@ -32,7 +42,7 @@ returns-in-LegacyMacro-default-default-None-clause-refused c =
     let told = c.in-LegacyMacro-default-default-None in
     let meant : told.field-2 ≡ None = rw told.is at told.field-2-is in
     rw told.is (subst
-    (λ (o : Option Word). OnRefused c.add_legacy.result (NoReader (Adds (statement.LegacyMacro told.name told.«module» o) c.args.self.now)))
+    (λ (o : Option Word). OnRefused c.add_legacy.result (NoOutcome (Adds (statement.LegacyMacro told.name told.«module» o) (told_by c.args.self.now))))
     (sym meant) c.add_legacy.ensures.refused)
 
 pub returns-in-LegacyMacro-default-default-Some-clause-refused :
@@ -41,7 +51,7 @@ returns-in-LegacyMacro-default-default-Some-clause-refused c =
     let told = c.in-LegacyMacro-default-default-Some in
     let meant : told.field-2 ≡ Some told.meant = rw told.is at told.field-2-is in
     rw told.is (subst
-    (λ (o : Option Word). OnRefused c.add_legacy_of.result (NoReader (Adds (statement.LegacyMacro told.name told.«module» o) c.args.self.now)))
+    (λ (o : Option Word). OnRefused c.add_legacy_of.result (NoOutcome (Adds (statement.LegacyMacro told.name told.«module» o) (told_by c.args.self.now))))
     (sym meant) c.add_legacy_of.ensures.refused)
 
 pub returns-in-ExternPrelude-clause-refused : goal.returns-in-ExternPrelude-clause-refused

@@ -1,17 +1,17 @@
-use Rattle.std.proofs.Common.{◌≢◌, rules, ap, length, Err, refl, subst, Some, None, inl, inr, tests, vec_items}
+use Rattle.std.proofs.Common.{◌≢◌, rules, ap, length, Err, refl, subst, Some, None, inl, inr, tests}
 use Rattle.std.proofs.lemmas.List.{nil_from_length}
 use Rattle.std.proofs.lemmas.Result.{on_ok_weaker}
-use Rattle.file_reader.specs.Reading.{ReadsLine, RefusesLine, MayFollow}
-use Rattle.statements.specs.Spelling.{IsRead}
+use Rattle.file_reader.specs.Told.{told_by}
+use Rattle.file_reader.specs.Reading.{IsReadAt, MayFollow, ReadsLine, RefusesLine}
 use Rattle.troubles.specs.declared.trouble.Trouble.{Trouble}
-use Rattle.file_reader.proofs.Refused.{on_refused, then_refused, may_not_follow}
+use Rattle.file_reader.proofs.Refused.{on_refused, then_refused, may_not_follow, read_at}
 use Rattle.file_reader.proofs.reader.Reader.take_line.Goals as goal
 use Rattle.file_reader.proofs.reader.Reader.take_line.Goals.{else-not-is_empty-via-then-not-is_empty+else-not-stands_below_models, else-not-is_empty-via-else-not-is_empty}
 
 -- src/reader.rt:78:5
 pub returns-in_default-clause-read : goal.returns-in_default-clause-read
 unfolding ReadsLine
-returns-in_default-clause-read c = (_, None, c.of.ensures, subst (IsRead c.of.result.words.rest.now) c.in_default.is c.in_ok-verb.ensures.read, refl)
+returns-in_default-clause-read c = (_, None, c.of.ensures.code, subst (IsReadAt c.args.number c.of.result.words.rest.now) c.in_default.is (read_at c.of.result.words.line c.args.number c.of.result.words.rest.now c.in_ok-verb.field-0 c.of.ensures.line c.in_ok-verb.ensures.read c.in_ok-verb.ensures.line), refl)
 
 -- src/reader.rt:78:5
 pub returns-clause-read : goal.returns-clause-read
@@ -19,17 +19,17 @@ unfolding ReadsLine
 returns-clause-read c =
     let s = c.in-Some.statement in
     let code = c.of.result.words.rest.now in
-    let may : MayFollow s c.args.self.now = elim c.else-not-is_empty.branch [
+    let may : MayFollow s (told_by c.args.self.now) = elim c.else-not-is_empty.branch [
       | else-not-is_empty-via-then-not-is_empty+else-not-stands_below_models w ↦ inr (search (rules, tests))
       | else-not-is_empty-via-else-not-is_empty w ↦ inl (nil_from_length _ (search (rules, tests)))
     ] in
-    on_ok_weaker c.add.result (λ a. (code, Some (c.in-Some.verb, s), c.of.ensures, subst (IsRead code) c.in-Some.is c.in_ok-verb.ensures.read, (may, a))) c.add.ensures.added
+    on_ok_weaker c.add.result (λ a. (code, Some (c.in-Some.verb, s), c.of.ensures.code, subst (IsReadAt c.args.number code) c.in-Some.is (read_at c.of.result.words.line c.args.number c.of.result.words.rest.now c.in_ok-verb.field-0 c.of.ensures.line c.in_ok-verb.ensures.read c.in_ok-verb.ensures.line), (may, a))) c.add.ensures.added
 
 -- src/reader.rt:89:39
 pub returns-in_err-verb-clause-refused : goal.returns-in_err-verb-clause-refused
 unfolding RefusesLine
 returns-in_err-verb-clause-refused c =
-    let why : RefusesLine c.args.line.now c.args.self.now = (c.of.result.words.rest.now, c.of.ensures, inl c.in_err-verb.ensures.refused) in
+    let why : RefusesLine c.args.number c.args.line.now (told_by c.args.self.now) = (c.of.result.words.rest.now, c.of.ensures.code, inl c.in_err-verb.ensures.refused) in
     on_refused _ why
 
 -- src/reader.rt:93:13
@@ -37,15 +37,15 @@ pub returns-then-not-stands_below_models-clause-refused : goal.returns-then-not-
 unfolding RefusesLine
 returns-then-not-stands_below_models-clause-refused c =
     let s = c.in-Some.statement in
-    let old = c.args.self.now in
+    let old = told_by c.args.self.now in
     let code = c.of.result.words.rest.now in
-    let some : length (vec_items old.firmware.models) ≢ 0 = search (rules, tests) in
-    let why : RefusesLine c.args.line.now old = (
+    let some : length old.models ≢ 0 = search (rules, tests) in
+    let why : RefusesLine c.args.number c.args.line.now old = (
       code,
-      c.of.ensures,
+      c.of.ensures.code,
       inr (
         Some (c.in-Some.verb, s),
-        subst (IsRead code) c.in-Some.is c.in_ok-verb.ensures.read,
+        subst (IsReadAt c.args.number code) c.in-Some.is (read_at c.of.result.words.line c.args.number c.of.result.words.rest.now c.in_ok-verb.field-0 c.of.ensures.line c.in_ok-verb.ensures.read c.in_ok-verb.ensures.line),
         (λ new a. may_not_follow s old (λ e. some (ap length e)) (cc) a.0),
       ),
     ) in
@@ -58,5 +58,5 @@ returns-clause-refused c =
     let s = c.in-Some.statement in
     let code = c.of.result.words.rest.now in
     then_refused c.add.result
-    (λ none. (code, c.of.ensures, inr (Some (c.in-Some.verb, s), subst (IsRead code) c.in-Some.is c.in_ok-verb.ensures.read, (λ new a. none new a.1))))
+    (λ none. (code, c.of.ensures.code, inr (Some (c.in-Some.verb, s), subst (IsReadAt c.args.number code) c.in-Some.is (read_at c.of.result.words.line c.args.number c.of.result.words.rest.now c.in_ok-verb.field-0 c.of.ensures.line c.in_ok-verb.ensures.read c.in_ok-verb.ensures.line), (λ new a. none new a.1))))
     c.add.ensures.refused
