@@ -210,7 +210,7 @@ impl<'a> Statement<'a> {
             ¬ (Spells verb.entry.text.now words.old.words.rest.now s)) }
         ensures rest { IfOk result (λ s. words.new.words.rest.now ≡ after_statement s words.old.words.rest.now) }
         ensures lines { IfOk result (StandsIn words.old.words.line) }
-        ensures line { words.new.words.line ≡ words.old.words.line }
+        ensures line { IfOk result (λ _. words.new.words.line ≡ words.old.words.line) }
     {
         match text_or_nothing(verb) {
             "crate" => {
