@@ -99,16 +99,9 @@ IsKind (kind.Macro styles) verb text = (verb ≡ codes "macro") × AreStyles sty
 IsKind (kind.Variant shape) verb text = ⊥
 
 abbrev pub after_kind : ItemKind → List ℕ → List ℕ
-after_kind kind.Function text = text
-after_kind kind.Const text = text
-after_kind kind.Static text = text
 after_kind (kind.Struct shape) text = after_word text
-after_kind kind.Union text = text
-after_kind kind.Enum text = text
-after_kind kind.Trait text = text
-after_kind kind.TypeAlias text = text
 after_kind (kind.Macro styles) text = after_words 3 text
-after_kind (kind.Variant shape) text = text
+after_kind k text = text
 
 -- the first word of an import
 abbrev pub import_word : Bringing → List ℕ
@@ -241,16 +234,8 @@ IsReadable line = (o : Option (Word × Statement)) × IsRead line o
 
 -- whether it may stand below a model
 abbrev pub stands_below_models : Statement → Bool
-stands_below_models (statement.Crate name edition) = false
-stands_below_models (statement.Module name vis) = false
-stands_below_models (statement.Block name) = false
-stands_below_models (statement.Item site) = false
 stands_below_models (statement.Defined k site) = true
-stands_below_models (statement.Variant name shape) = false
-stands_below_models (statement.LegacyMacro name at meant) = false
 stands_below_models (statement.Use b full site) = true
-stands_below_models (statement.ExternPrelude name within meant) = false
-stands_below_models (statement.MacroUse name within meant) = false
-stands_below_models (statement.Prelude at within) = false
 stands_below_models (statement.Path path asking) = true
 stands_below_models (statement.Model name below) = true
+stands_below_models s = false

@@ -3,6 +3,7 @@ ghost use Rattle.source_text.specs.Words.{first_word, after_word};
 ghost use Rattle.std.specs.Prelude.{◌≡◌, Option, IfOk, IfErr};
 ghost use Rattle.std.specs.Result.{result_ok};
 ghost use Rattle.statements.specs.Clauses.{asking_of, with_option};
+ghost use Rattle.statements.specs.Lines.{AskingStandsIn};
 ghost use Rattle.statements.specs.Spelling.{MayBeOption, MayAsk, after_asking};
 ghost use Rattle.statements.specs.declared.asking.Asking.{Asking};
 
@@ -92,6 +93,7 @@ fn with_next_option<'a>(
     ensures option { IfOk result (λ a. MayBeOption (first_word words.old.words.rest.now) × (a ≡ with_option asking.entry (first_word words.old.words.rest.now))) }
     ensures refused { IfErr result (λ _. ¬ (MayBeOption (first_word words.old.words.rest.now))) }
     ensures rest { words.new.words.rest.now ≡ after_word words.old.words.rest.now }
+    ensures line { words.new.words.line ≡ words.old.words.line }
 {
     match words.next_word() {
         Some(word) => with_option(asking, word),
@@ -106,6 +108,8 @@ pub(crate) fn read_asking<'a>(
     ensures asking { IfOk result (λ a. MayAsk a words.old.words.rest.now) }
     ensures refused { IfErr result (λ _. (a : Option Asking) → ¬ (MayAsk a words.old.words.rest.now)) }
     ensures rest { IfOk result (λ a. words.new.words.rest.now ≡ after_asking a words.old.words.rest.now) }
+    ensures lines { IfOk result (AskingStandsIn words.old.words.line) }
+    ensures line { words.new.words.line ≡ words.old.words.line }
 {
     let Some(from) = words.next_word() else {
         return Ok(None);

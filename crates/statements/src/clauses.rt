@@ -4,6 +4,7 @@ ghost use Rattle.source_text.specs.Words.{first_word, after_word};
 ghost use Rattle.std.specs.Prelude.{◌≡◌, ◌≢◌, ◌++◌, ℕ, List, IfOk, IfErr, codes};
 ghost use Rattle.std.specs.Result.{result_ok};
 ghost use Rattle.statements.specs.Clauses.{styles_of, with_style, shape_of, Says};
+ghost use Rattle.statements.specs.Lines.{VisibilityStandsIn, SiteStandsIn};
 ghost use Rattle.statements.specs.Spelling.{after_module, after_visibility, MaySay, IsPlace, IsSite, after_site, MayBeStyle, AreStyles, after_words};
 ghost use Rattle.hir_def.specs.declared.edition.Edition.{Edition};
 ghost use Rattle.item_scope.specs.declared.index_data.CallStyles.{CallStyles};
@@ -63,6 +64,7 @@ pub(crate) fn read_edition(word: Word) -> Result<Edition, Complaint>
 fn closed<'a>(word: Word<'a>) -> Result<Word<'a>, Complaint>
     ensures module { IfOk result (λ w. word.entry.text.now ≡ w.text.now ++ codes ")") }
     ensures refused { IfErr result (λ _. (text : List ℕ) → word.entry.text.now ≢ text ++ codes ")") }
+    ensures line { IfOk result (λ w. w.line ≡ word.entry.line) }
 {
     match word.text {
         [text @ .., b')'] => Ok(Word {
@@ -86,6 +88,8 @@ pub(crate) fn visibility_of<'a>(
     ensures refused { IfErr result (λ _. (vis : RawVisibility) →
         ¬ (Says word.entry.text.now (first_word words.old.words.rest.now) vis)) }
     ensures rest { IfOk result (λ vis. words.new.words.rest.now ≡ after_module vis words.old.words.rest.now) }
+    ensures lines { IfOk result (VisibilityStandsIn words.old.words.line) }
+    ensures line { words.new.words.line ≡ words.old.words.line }
 {
     if word.is("pub") {
         Ok(RawVisibility::Public)
@@ -108,6 +112,8 @@ pub(crate) fn read_optional<'a>(
     ensures says { IfOk result (λ vis. MaySay vis words.old.words.rest.now) }
     ensures refused { IfErr result (λ _. (vis : RawVisibility) → ¬ (MaySay vis words.old.words.rest.now)) }
     ensures rest { IfOk result (λ vis. words.new.words.rest.now ≡ after_visibility vis words.old.words.rest.now) }
+    ensures lines { IfOk result (VisibilityStandsIn words.old.words.line) }
+    ensures line { words.new.words.line ≡ words.old.words.line }
 {
     match words.next_word() {
         Some(word) => visibility_of(word, words),
@@ -120,11 +126,13 @@ pub(crate) fn site_of<'a>(
     name: Word<'a>,
     words: &mut StatementWords<'a>,
 ) -> Result<Site<'a>, Complaint>
-    ensures name { IfOk result (λ s. s.name.text.now ≡ name.entry.text.now) }
+    ensures name { IfOk result (λ s. s.name ≡ name.entry) }
     ensures place { IfOk result (λ s. IsPlace s.«module» s.vis words.old.words.rest.now) }
     ensures refused { IfErr result (λ _. (at : Word) (vis : RawVisibility) →
         ¬ (IsPlace at vis words.old.words.rest.now)) }
     ensures rest { IfOk result (λ s. words.new.words.rest.now ≡ after_visibility s.vis (after_words 2 words.old.words.rest.now)) }
+    ensures lines { IfOk result (λ s. (s.«module».line ≡ words.old.words.line) × VisibilityStandsIn words.old.words.line s.vis) }
+    ensures line { words.new.words.line ≡ words.old.words.line }
 {
     words.keyword("in", WITHIN)?;
     let module = words.expect(MODULE)?;
@@ -137,6 +145,8 @@ pub(crate) fn read_site<'a>(words: &mut StatementWords<'a>) -> Result<Site<'a>, 
     ensures site { IfOk result (λ s. IsSite s words.old.words.rest.now) }
     ensures refused { IfErr result (λ _. (s : Site) → ¬ (IsSite s words.old.words.rest.now)) }
     ensures rest { IfOk result (λ s. words.new.words.rest.now ≡ after_site s words.old.words.rest.now) }
+    ensures lines { IfOk result (SiteStandsIn words.old.words.line) }
+    ensures line { words.new.words.line ≡ words.old.words.line }
 {
     let name = words.expect("the item's name")?;
     let site = site_of(name, words)?;
@@ -146,6 +156,7 @@ pub(crate) fn read_site<'a>(words: &mut StatementWords<'a>) -> Result<Site<'a>, 
 pub(crate) fn read_shape(words: &mut StatementWords) -> Result<Shape, Complaint>
     ensures shape { result_ok result ≡ shape_of (first_word words.old.words.rest.now) }
     ensures rest { words.new.words.rest.now ≡ after_word words.old.words.rest.now }
+    ensures line { words.new.words.line ≡ words.old.words.line }
 {
     let word = words.expect(SHAPE)?;
     if word.is("unit") {
@@ -190,6 +201,7 @@ fn with_next_style(styles: CallStyles, words: &mut StatementWords) -> Result<Cal
     ensures style { IfOk result (λ s. MayBeStyle (first_word words.old.words.rest.now) × (s ≡ with_style styles (first_word words.old.words.rest.now))) }
     ensures refused { IfErr result (λ _. ¬ (MayBeStyle (first_word words.old.words.rest.now))) }
     ensures rest { words.new.words.rest.now ≡ after_word words.old.words.rest.now }
+    ensures line { words.new.words.line ≡ words.old.words.line }
 {
     match words.next_word() {
         Some(word) => with_style(styles, word),
@@ -203,6 +215,7 @@ pub(crate) fn read_styles(words: &mut StatementWords) -> Result<CallStyles, Comp
     ensures styles { IfOk result (λ s. AreStyles s words.old.words.rest.now) }
     ensures refused { IfErr result (λ _. (s : CallStyles) → ¬ (AreStyles s words.old.words.rest.now)) }
     ensures rest { IfOk result (λ _. words.new.words.rest.now ≡ after_words 3 words.old.words.rest.now) }
+    ensures line { words.new.words.line ≡ words.old.words.line }
 {
     let none = CallStyles {
         fn_like: false,

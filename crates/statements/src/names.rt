@@ -43,7 +43,8 @@ pub(crate) fn text_or_nothing<'a>(word: Word<'a>) -> &'a str
 
 /// A full name as what stands before its last `::` and the name after it.
 pub fn split<'a>(word: Word<'a>) -> Result<(Word<'a>, Word<'a>), Complaint>
-    ensures { Parts word.entry.text.now result }
+    ensures parts { Parts word.entry.text.now result }
+    ensures lines { IfOk result (λ p. (p.0.line ≡ word.entry.line) × (p.1.line ≡ word.entry.line)) }
 {
     let Some((outer, name)) = word.text.rsplit_once_str(b"::") else {
         return Err(Complaint::at(
@@ -85,13 +86,14 @@ pub fn row_number(word: Word, count: usize) -> Result<u32, Complaint>
 {
     match u32::try_from(count) {
         Ok(n) => Ok(n),
-        Err(_) => Err(Complaint::at(word, "there are too many", "at most 4294967295 of a kind")),
+        Err(_) => Err(Complaint::at(word, "there are too many", "at most 4294967296 of a kind")),
     }
 }
 
 /// What stands after the last `::` of a full name; all of it, where it has none.
 pub fn last_name<'a>(word: Word<'a>) -> Word<'a>
-    ensures { LastName word.entry.text.now result.text.now }
+    ensures name { LastName word.entry.text.now result.text.now }
+    ensures line { result.line ≡ word.entry.line }
 {
     match split(word) {
         Ok((_, name)) => name,

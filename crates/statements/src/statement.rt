@@ -1,6 +1,7 @@
 // One statement of a firmware file, as its words say it.
 ghost use Rattle.std.specs.Prelude.{◌≡◌, ◌≢◌, ℕ, List, Option, IfOk, IfErr, codes};
 ghost use Rattle.source_text.specs.Words.{first_word, after_word};
+ghost use Rattle.statements.specs.Lines.{WordStandsIn, SiteStandsIn, StandsIn, AllStandIn};
 ghost use Rattle.statements.specs.Spelling.{word, after_words, IsWord, IsImportName, after_import_name, IsImport, after_import, MayGoOn, after_going_on, IsLegacy, IsMeaning, IsModel, Spells, after_statement, IsRead, IsReadable, stands_below_models};
 ghost use Rattle.source_text.specs.declared.words.Word.{Word};
 ghost use Rattle.statements.specs.declared.clauses.Site.{Site};
@@ -54,6 +55,8 @@ fn read_more<'a>(
     ensures more { IfOk result (λ o. MayGoOn keyword.now o words.old.words.rest.now) }
     ensures refused { IfErr result (λ _. (o : Option Word) → ¬ (MayGoOn keyword.now o words.old.words.rest.now)) }
     ensures rest { IfOk result (λ o. words.new.words.rest.now ≡ after_going_on o words.old.words.rest.now) }
+    ensures lines { IfOk result (WordStandsIn words.old.words.line) }
+    ensures line { words.new.words.line ≡ words.old.words.line }
 {
     let Some(word) = words.next_word() else {
         return Ok(None);
@@ -72,6 +75,8 @@ fn read_legacy<'a>(
     ensures refused { IfErr result (λ _. (name at : Word) (o : Option Word) →
         ¬ (IsLegacy name at o words.old.words.rest.now)) }
     ensures rest { IfOk result (λ t. words.new.words.rest.now ≡ after_going_on t.2 (after_words 3 words.old.words.rest.now)) }
+    ensures lines { IfOk result (λ t. (t.0.line ≡ words.old.words.line) × (t.1.line ≡ words.old.words.line) × WordStandsIn words.old.words.line t.2) }
+    ensures line { words.new.words.line ≡ words.old.words.line }
 {
     let name = words.expect("the macro's name")?;
     words.keyword("in", WITHIN)?;
@@ -97,6 +102,8 @@ fn read_import_name<'a>(
     ensures refused { IfErr result (λ _. (f name : List ℕ) → IsImportName bringing f name words.old.words.rest.now
         → word 0 (after_import_name words.old.words.rest.now) ≢ codes "in") }
     ensures rest { IfOk result (λ _. words.new.words.rest.now ≡ after_word (after_import_name words.old.words.rest.now)) }
+    ensures lines { IfOk result (λ name. full.entry.line ≡ words.old.words.line → name.line ≡ words.old.words.line) }
+    ensures line { words.new.words.line ≡ words.old.words.line }
 {
     let is_glob = matches!(bringing, Bringing::Glob);
     let expected = if is_glob { WITHIN } else { "`in` or `as`" };
@@ -120,6 +127,8 @@ fn read_use<'a>(
     ensures import { IfOk result (λ t. IsImport bringing t.0 t.1 words.old.words.rest.now) }
     ensures refused { IfErr result (λ _. (f : Word) (s : Site) → ¬ (IsImport bringing f s words.old.words.rest.now)) }
     ensures rest { IfOk result (λ t. words.new.words.rest.now ≡ after_import t.1 words.old.words.rest.now) }
+    ensures lines { IfOk result (λ t. (t.0.line ≡ words.old.words.line) × SiteStandsIn words.old.words.line t.1) }
+    ensures line { words.new.words.line ≡ words.old.words.line }
 {
     let full = words.expect("what is imported, by its full name")?;
     let name = read_import_name(bringing, full, words)?;
@@ -138,6 +147,8 @@ fn read_meaning<'a>(
     ensures refused { IfErr result (λ _. (name within meant : Word) →
         ¬ (IsMeaning name within meant words.old.words.rest.now)) }
     ensures rest { IfOk result (λ _. words.new.words.rest.now ≡ after_words 5 words.old.words.rest.now) }
+    ensures lines { IfOk result (λ t. (t.0.line ≡ words.old.words.line) × (t.1.line ≡ words.old.words.line) × (t.2.line ≡ words.old.words.line)) }
+    ensures line { words.new.words.line ≡ words.old.words.line }
 {
     let name = words.expect("a name")?;
     words.keyword("in", "`in` and a crate")?;
@@ -152,6 +163,8 @@ fn read_model<'a>(words: &mut StatementWords<'a>) -> Result<(Word<'a>, Option<Wo
     ensures refused { IfErr result (λ _. (name : Word) (below : Option Word) →
         ¬ (IsModel name below words.old.words.rest.now)) }
     ensures rest { IfOk result (λ t. words.new.words.rest.now ≡ after_going_on t.1 (after_word words.old.words.rest.now)) }
+    ensures lines { IfOk result (λ t. (t.0.line ≡ words.old.words.line) × WordStandsIn words.old.words.line t.1) }
+    ensures line { words.new.words.line ≡ words.old.words.line }
 {
     let name = words.expect("the model's name")?;
     let below = read_more(
@@ -168,6 +181,7 @@ impl<'a> Statement<'a> {
     pub fn of(mut words: StatementWords<'a>) -> Result<Option<(Word<'a>, Statement<'a>)>, Complaint>
         ensures read { IfOk result (IsRead words.entry.words.rest.now) }
         ensures refused { IfErr result (λ _. ¬ (IsReadable words.entry.words.rest.now)) }
+        ensures line { IfOk result (AllStandIn words.entry.words.line) }
     {
         let Some(verb) = words.next_word() else {
             return Ok(None);
@@ -195,6 +209,8 @@ impl<'a> Statement<'a> {
         ensures refused { IfErr result (λ _. (s : Statement) →
             ¬ (Spells verb.entry.text.now words.old.words.rest.now s)) }
         ensures rest { IfOk result (λ s. words.new.words.rest.now ≡ after_statement s words.old.words.rest.now) }
+        ensures lines { IfOk result (StandsIn words.old.words.line) }
+        ensures line { IfOk result (λ _. words.new.words.line ≡ words.old.words.line) }
     {
         match text_or_nothing(verb) {
             "crate" => {

@@ -17,7 +17,8 @@ pub struct StatementWords<'a> {
 impl<'a> StatementWords<'a> {
     /// The words of a text that is the line of that number.
     pub fn of(text: &'a [u8], line: usize) -> StatementWords<'a>
-        ensures { BeforeComment text.entry.now result.words.rest.now }
+        ensures code { BeforeComment text.entry.now result.words.rest.now }
+        ensures line { result.words.line ≡ line }
     {
         let code = match text.split_once_str(b"//") {
             Some((code, _)) => code,
@@ -31,6 +32,7 @@ impl<'a> StatementWords<'a> {
     pub(crate) fn next_word(&mut self) -> Option<Word<'a>>
         ensures word { NextWord self.old.words.rest.now self.old.words.line self.old.words.column result }
         ensures rest { self.new.words.rest.now ≡ after_word self.old.words.rest.now }
+        ensures line { self.new.words.line ≡ self.old.words.line }
     {
         self.words.next_word()
     }
@@ -39,6 +41,7 @@ impl<'a> StatementWords<'a> {
     pub(crate) fn expect(&mut self, expected: &'static str) -> Result<Word<'a>, Complaint>
         ensures word { NextWord self.old.words.rest.now self.old.words.line self.old.words.column (result_ok result) }
         ensures rest { self.new.words.rest.now ≡ after_word self.old.words.rest.now }
+        ensures line { self.new.words.line ≡ self.old.words.line }
     {
         let (line, column) = self.words.end();
         self.next_word().ok_or(Complaint {
@@ -55,6 +58,7 @@ impl<'a> StatementWords<'a> {
         ensures refused { IfErr result (λ _. Ends self.old.words.rest.now
             ⊎ (first_word self.old.words.rest.now ≢ text.now)) }
         ensures rest { self.new.words.rest.now ≡ after_word self.old.words.rest.now }
+        ensures line { self.new.words.line ≡ self.old.words.line }
     {
         let word = self.expect(expected)?;
         if word.is(text) {
@@ -67,6 +71,7 @@ impl<'a> StatementWords<'a> {
     pub(crate) fn expect_end(&mut self) -> Result<(), Complaint>
         ensures ends { IfOk result (λ _. Ends self.old.words.rest.now) }
         ensures refused { IfErr result (λ _. ¬ (Ends self.old.words.rest.now)) }
+        ensures line { self.new.words.line ≡ self.old.words.line }
     {
         match self.next_word() {
             Some(word) => Err(Complaint::at(
