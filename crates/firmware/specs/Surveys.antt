@@ -1,5 +1,5 @@
 -- What a file that is taken whole tells.
-use Rattle.std.specs.Prelude.{◌≡◌, ℕ, ◌-◌, ◌^◌, ◌⊎◌, min, length, List, Some, Ok, Err, Result, vec_items}
+use Rattle.std.specs.Prelude.{◌≡◌, ℕ, ◌-◌, ◌^◌, ◌⊎◌, min, length, List, None, Some, Ok, Err, Result, vec_items}
 use Rattle.std.specs.declared.hash.Hasher as hasher
 use Rattle.std.specs.declared.hash.BuildHasher as builder
 use Rattle.hir_def.specs.declared.fault.Failure.{Failure}
@@ -17,7 +17,7 @@ use Rattle.firmware.specs.declared.survey.Survey.{Survey}
 use Rattle.troubles.specs.declared.trouble.Trouble.{Trouble}
 use Rattle.troubles.specs.declared.trouble.Trouble.TheVariants.{Text, Tables}
 use Rattle.path_text.specs.declared.mod_path.ModPath.{ModPath}
-use Rattle.firmware.specs.Paths.{AllRead, FirstBad}
+use Rattle.firmware.specs.Paths.{AllRead, FirstBad, WantsAt}
 use Rattle.firmware.specs.Words.{word_at}
 use Rattle.source_text.specs.declared.words.Word.{Word}
 
@@ -44,9 +44,9 @@ declared_rows f = record {
 abbrev TellsRow : Firmware → Fault → Complaint → Type 0
 TellsRow m f c = (row : ℕ) × ((word : Word) × ((f ≡ Index (BadRow row)) × (word_at m.tables row ≡ Some word) × (c.line ≡ word.line) × (c.column ≡ word.column)))
 
--- a refusal is told as it is, or a bad row at its statement
+-- a bad row is told at the word that tells it; where no word does, and for all other faults, the fault itself is told
 abbrev pub Tells : Firmware → Fault → Trouble → Type 0
-Tells m f (Tables g) = g ≡ f
+Tells m f (Tables g) = (g ≡ f) × ((row : ℕ) → f ≡ Index (BadRow row) → word_at m.tables row ≡ None)
 Tells m f (Text c) = TellsRow m f c
 
 -- what is told of a load of the file's rows that is refused
@@ -66,11 +66,12 @@ pub record Takes (f : Firmware) (s : Survey) : Type 0 where
   pub names : s.list.now ≡ f.list
   pub paths : AllRead f.list (vec_items f.paths) (vec_items s.paths)
 
--- all paths are read, and the tables are refused
-abbrev pub BadTables : Firmware → Trouble → Type 0
-BadTables f t = ((read : List ModPath) × AllRead f.list (vec_items f.paths) read) × Denies f (Refused t)
+-- all paths of the file are read
+abbrev pub PathsRead : Firmware → Type 0
+PathsRead f = (read : List ModPath) × AllRead f.list (vec_items f.paths) read
 
--- why a file is not taken: its first bad path, or else what is wrong with its tables
+-- why a file is not taken: its first bad path, or else what is wrong with its tables; memory is wanting at a path that can be
+-- read, after paths that were read, or once all are read
 abbrev pub WhyNot : Firmware → Failure Trouble → Type 0
-WhyNot f (Memory e) = Unit {0}
-WhyNot f (Refused t) = FirstBad f.list (vec_items f.paths) t ⊎ BadTables f t
+WhyNot f (Memory e) = WantsAt f.list (vec_items f.paths) ⊎ PathsRead f
+WhyNot f (Refused t) = FirstBad f.list (vec_items f.paths) t ⊎ (PathsRead f × Denies f (Refused t))

@@ -12,7 +12,7 @@ pub struct Definitions<'a> {
     pub modules: Vec<Definition<'a>>,
     pub enums: Vec<Definition<'a>>,
     pub macros: Vec<Definition<'a>>,
-    /// Functions, fields, variants and the like have one count.
+    /// Functions, structs, variants and the like have one count.
     pub others: Vec<Definition<'a>>,
     /// The statements of imports, each with the module that imports.
     pub imports: Vec<Definition<'a>>,
@@ -22,7 +22,7 @@ pub struct Definitions<'a> {
     pub of_a_kind: Vec<ModuleDefId>,
 }
 
-// The statement of that number among those of its kind.
+// The statement of that number among those counted with its kind.
 fn nth<'a>(statements: &[Definition<'a>], number: u32) -> Option<Definition<'a>>
     ensures { result ≡ slice_get statements.now number }
 {

@@ -1,7 +1,9 @@
 // The parts of a file, and the piles of its models.
 ghost use Rattle.std.specs.Prelude.{◌≡◌, IfOk, vec_items};
+ghost use Rattle.std.proofs.Common.{rules};
 ghost use Rattle.firmware.specs.Piles.{top_of, with_top, parts_of};
 
+use hir_def::lawful_eq::LawfulEq;
 use std::alloc::{AllocError, Global};
 
 /// A part of a file: the base, or what stands below the statement of the model with that index in `Firmware::models`.
@@ -9,6 +11,10 @@ use std::alloc::{AllocError, Global};
 pub enum Part {
     Base,
     Model(usize),
+}
+
+impl LawfulEq for Part {
+    ghost eq_is_identity = { Prim.search rules };
 }
 
 /// The models of a pile by their indexes in `Firmware::models`, the lowest first. The last one is the model whose pile it is.
