@@ -5,7 +5,7 @@ use Rattle.entries.specs.declared.visibility.Visibility.TheVariants as vis
 use Rattle.entries.specs.declared.visibility.VisibilityExplicitness.TheVariants.{Explicit, Implicit}
 use Rattle.file_reader.specs.Reading.{IsReadAt, MayFollow}
 use Rattle.file_reader.specs.Refusals.{OnRefused}
-use Rattle.file_reader.specs.Statements.{Names, Tells}
+use Rattle.file_reader.specs.Named.{Names, Tells}
 use Rattle.file_reader.specs.declared.reader.Known.{Known}
 use Rattle.file_reader.specs.Told.{Modules, Told}
 use Rattle.hir_def.specs.declared.ModuleId.{ModuleId}

@@ -2,7 +2,7 @@
 use Rattle.std.proofs.Common.{◌≡◌, ℕ, List, [], ◌∷◌, ◌++◌, refl, sym, subst}
 use Rattle.std.proofs.lemmas.List.{append-nil}
 use Rattle.file_reader.specs.Definitions.{Kept, define}
-use Rattle.file_reader.specs.Tables.{Lists, with_module}
+use Rattle.file_reader.specs.Adding.{Lists, with_module}
 use Rattle.file_reader.specs.Told.{Declarations, DeliveryTold, Modules, Table, Told, with_row}
 use Rattle.hir_def.specs.declared.Name.{Name}
 use Rattle.index_tables.specs.declared.keys.EnumName.{EnumName}
@@ -19,35 +19,34 @@ still_listed old mid new w n e h = rw e h
 
 module _ (t : Told) (m : List (List ℕ)) (w : Word) (row : ModuleRow) (d e : Kept) (k : Modules) where
   -- a name is listed, and a crate and its root are added
-  crate_joined : (a b : Told) (z : List CrateRow) (x y : CrateRow)
-      → a ≡ record t { names = m } → z ≡ a.crates ++ x ∷ [] → x ≡ y → d ≡ e
-      → b ≡ record (with_module (record a { crates = z }) w row d) { above = k }
-      → b ≡ record (with_module t w row e) { names = m; above = k; crates = t.crates ++ y ∷ [] }
-  crate_joined a b z x y p q i r s = cc
+  crate_joined : (a b : Told) (z : List CrateRow) (x : CrateRow)
+      → a ≡ record t { names = m } → d ≡ e
+      → b ≡ record (with_module a w row d) { above = k } → z ≡ b.crates ++ x ∷ []
+      → record b { crates = z } ≡ record (with_module t w row e) { names = m; above = k; crates = t.crates ++ x ∷ [] }
+  crate_joined a b z x p q r s = cc
 
-  -- the same with the names and the modules as they are told then
-  pub crate_told : (a b : Told) (z : List CrateRow) (x y : CrateRow)
-      → a ≡ record t { names = m } → z ≡ a.crates ++ x ∷ [] → x ≡ y → d ≡ e
-      → b ≡ record (with_module (record a { crates = z }) w row d) { above = k }
-      → b ≡ record (with_module t w row e) { names = b.names; above = b.above; crates = t.crates ++ y ∷ [] }
-  crate_told a b z x y p q i r s =
-      let joined = crate_joined a b z x y p q i r s in
-      subst (λ (o : Told). o ≡ record (with_module t w row e) { names = o.names; above = o.above; crates = t.crates ++ y ∷ [] }) (sym joined) refl
+  pub crate_told : (a b : Told) (z : List CrateRow) (x : CrateRow)
+      → a ≡ record t { names = m } → d ≡ e
+      → b ≡ record (with_module a w row d) { above = k } → z ≡ b.crates ++ x ∷ []
+      → record b { crates = z } ≡ record (with_module t w row e) { names = b.names; above = b.above; crates = t.crates ++ x ∷ [] }
+  crate_told a b z x p q r s =
+      let joined = crate_joined a b z x p q r s in
+      subst (λ (o : Told). record b { crates = z } ≡ record (with_module t w row e) { names = o.names; above = o.above; crates = t.crates ++ x ∷ [] }) (sym joined) joined
 
   -- a name is listed, and a block and its root are added
-  block_joined : (a b : Told) (z : List BlockRow) (x y : BlockRow)
-      → a ≡ record t { names = m } → z ≡ a.blocks ++ x ∷ [] → x ≡ y → d ≡ e
-      → b ≡ record (with_module (record a { blocks = z }) w row d) { above = k }
-      → b ≡ record (with_module t w row e) { names = m; above = k; blocks = t.blocks ++ y ∷ [] }
-  block_joined a b z x y p q i r s = cc
+  block_joined : (a b : Told) (z : List BlockRow) (x : BlockRow)
+      → a ≡ record t { names = m } → d ≡ e
+      → b ≡ record (with_module a w row d) { above = k } → z ≡ b.blocks ++ x ∷ []
+      → record b { blocks = z } ≡ record (with_module t w row e) { names = m; above = k; blocks = t.blocks ++ x ∷ [] }
+  block_joined a b z x p q r s = cc
 
-  pub block_told : (a b : Told) (z : List BlockRow) (x y : BlockRow)
-      → a ≡ record t { names = m } → z ≡ a.blocks ++ x ∷ [] → x ≡ y → d ≡ e
-      → b ≡ record (with_module (record a { blocks = z }) w row d) { above = k }
-      → b ≡ record (with_module t w row e) { names = b.names; above = b.above; blocks = t.blocks ++ y ∷ [] }
-  block_told a b z x y p q i r s =
-      let joined = block_joined a b z x y p q i r s in
-      subst (λ (o : Told). o ≡ record (with_module t w row e) { names = o.names; above = o.above; blocks = t.blocks ++ y ∷ [] }) (sym joined) refl
+  pub block_told : (a b : Told) (z : List BlockRow) (x : BlockRow)
+      → a ≡ record t { names = m } → d ≡ e
+      → b ≡ record (with_module a w row d) { above = k } → z ≡ b.blocks ++ x ∷ []
+      → record b { blocks = z } ≡ record (with_module t w row e) { names = b.names; above = b.above; blocks = t.blocks ++ x ∷ [] }
+  block_told a b z x p q r s =
+      let joined = block_joined a b z x p q r s in
+      subst (λ (o : Told). record b { blocks = z } ≡ record (with_module t w row e) { names = o.names; above = o.above; blocks = t.blocks ++ x ∷ [] }) (sym joined) joined
 
   -- a name is listed, a module added and declared, and a delivery made
   inner_joined : (a b c f : Told) (q : Declarations) (x y : DeliveryTold)

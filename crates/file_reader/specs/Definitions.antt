@@ -21,7 +21,7 @@ pub record Kept : Type 0 where
 abbrev pub kept : Definition → Kept
 kept d = record { within = d.within.now; name = d.name.now; line = d.line; standing = d.standing }
 
--- all that are kept, as they are counted, and the items of a kind in their order
+-- all that are kept, as they are counted, and the items of a kind and new legacy macros in their order
 pub record Counted : Type 0 where
   pub modules : List Kept
   pub enums : List Kept
@@ -48,14 +48,7 @@ counted d = record {
 abbrev pub defined_as : Counted → ItemKind → List Kept
 defined_as c kind.Enum = c.enums
 defined_as c (kind.Macro styles) = c.macros
-defined_as c kind.Function = c.others
-defined_as c kind.Const = c.others
-defined_as c kind.Static = c.others
-defined_as c (kind.Struct s) = c.others
-defined_as c kind.Union = c.others
-defined_as c kind.Trait = c.others
-defined_as c kind.TypeAlias = c.others
-defined_as c (kind.Variant s) = c.others
+defined_as c k = c.others
 
 -- one more of a kind
 abbrev pub keep : Counted → ItemKind → Kept → Counted

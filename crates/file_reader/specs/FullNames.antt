@@ -10,7 +10,7 @@ use Rattle.entries.specs.Entries.{is_nothing, nothing, of_types, or_else}
 use Rattle.entries.specs.declared.per_ns.PerNs.{PerNs}
 use Rattle.entries.specs.declared.visibility.Visibility.TheVariants.{Public}
 use Rattle.file_reader.specs.Models.{part_of, parts_seen}
-use Rattle.file_reader.specs.Statements.{crate_of, known_of}
+use Rattle.file_reader.specs.Named.{crate_of, known_of}
 use Rattle.file_reader.specs.declared.reader.Known.{Known}
 use Rattle.file_reader.specs.Told.{Declarations, Key, Modules, Told}
 use Rattle.firmware.specs.contracts.pile.PartOrd.TheImpl.{cmp-value as part_cmp}

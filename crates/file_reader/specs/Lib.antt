@@ -2,9 +2,8 @@ pub mod Adding
 pub mod Definitions
 pub mod FullNames
 pub mod Models
+pub mod Named
 pub mod Nothing
 pub mod Reading
 pub mod Refusals
-pub mod Statements
-pub mod Tables
 pub mod Told

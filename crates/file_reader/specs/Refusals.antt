@@ -11,7 +11,7 @@ use Rattle.path_text.specs.Grammar.{IsName}
 abbrev pub OnRefused : {T R : Type 0} → Result T (Failure R) → Type 0 → Type 0
 OnRefused r P = IfErr r (IfRefused (λ _. P))
 
--- whatever were told then, it is not so
+-- nothing that could be told then is its outcome
 abbrev pub NoOutcome : (Told → Type 0) → Type 0
 NoOutcome P = (new : Told) → ¬ (P new)
 

@@ -1,9 +1,8 @@
 // What statements of several kinds add to a file: names, items, deliveries and paths.
 ghost use Rattle.std.specs.Prelude.{◌≡◌, ◌∷◌, ◌++◌, [], IfOk, IfErr, MatchResult, OnOk, Option};
-ghost use Rattle.std.specs.Str.{IsUtf8};
 ghost use Rattle.file_reader.specs.Refusals.{IsListable, NoOutcome, OnRefused};
-ghost use Rattle.file_reader.specs.Statements.{Names, Tells};
-ghost use Rattle.file_reader.specs.Tables.{Asks, AddsPath, AddsItem, Lists, MayStand, Stands};
+ghost use Rattle.file_reader.specs.Named.{Names, Tells};
+ghost use Rattle.file_reader.specs.Adding.{Asks, AddsPath, AddsItem, Lists, Stands};
 ghost use Rattle.file_reader.specs.Told.{told_by};
 ghost use Rattle.file_reader.specs.declared.reader.Known.{Known};
 ghost use Rattle.entries.specs.declared.visibility.Visibility.{Visibility};
@@ -27,7 +26,7 @@ use std::alloc::AllocError;
 use troubles::complaint::Complaint;
 use troubles::trouble::Trouble;
 
-// The name of a statement, which the paths of the file may have.
+// A name in the file's list: its word, its text and its number.
 #[derive(Clone, Copy)]
 pub(crate) struct Listed<'a> {
     pub(crate) word: Word<'a>,
@@ -35,7 +34,7 @@ pub(crate) struct Listed<'a> {
     pub(crate) number: Name,
 }
 
-// The module that an item or an import stands in.
+// Where an item or an import stands, and who sees it.
 #[derive(Clone, Copy)]
 pub(crate) struct Place<'a> {
     pub(crate) known: Known,
@@ -48,7 +47,6 @@ impl<'a> Reader<'a> {
         ensures told { told_by self.new ≡ record (told_by self.old) { names = self.new.firmware.list } }
         ensures lists { IfOk result (λ l. Lists (told_by self.old) word.entry.text.now l.number (told_by self.new)) }
         ensures word { IfOk result (λ l. (l.word ≡ word.entry) × (l.text.now ≡ word.entry.text.now)) }
-        ensures listable { OnOk result (IsListable word.entry.text.now) }
         ensures refused { OnRefused result (¬ (IsListable word.entry.text.now)) }
     {
         let text = name_of(word)?;
@@ -57,7 +55,7 @@ impl<'a> Reader<'a> {
         Ok(Listed { word, text, number })
     }
 
-    // A delivery in the line of its name.
+    // One more delivery, in the line of its name.
     pub(crate) fn deliver(
         &mut self,
         receiver: ModuleId,
@@ -122,7 +120,6 @@ impl<'a> Reader<'a> {
         }
     }
 
-    // Where an item or an import stands.
     pub(crate) fn place(&self, site: Site<'a>) -> Result<Place<'a>, Complaint>
         ensures stands { IfOk result (λ p. Stands (told_by self.now).above site.entry p.known p.vis) }
         ensures module { IfOk result (λ p. p.«module».now ≡ site.entry.«module».text.now) }
@@ -136,7 +133,7 @@ impl<'a> Reader<'a> {
         })
     }
 
-    // An item, and the module that it stands in.
+    // Adds an item, and answers its name and where it stands.
     pub(crate) fn add_item(
         &mut self,
         site: Site<'a>,
@@ -145,7 +142,7 @@ impl<'a> Reader<'a> {
         ensures name { IfOk result (λ p. (p.0.word ≡ site.entry.name) × (p.0.text.now ≡ site.entry.name.text.now)) }
         ensures module { IfOk result (λ p. p.1.«module».now ≡ site.entry.«module».text.now) }
         ensures refused { OnRefused result ((at : Known) → (v : Visibility) →
-            ¬ (MayStand (told_by self.old).above site.entry at v)) }
+            ¬ (Stands (told_by self.old).above site.entry at v × IsListable site.entry.name.text.now)) }
     {
         let place = self.place(site)?;
         let name = self.list_name(site.name)?;

@@ -2,7 +2,7 @@
 ghost use Rattle.std.specs.Prelude.{◌≡◌, OnOk};
 ghost use Rattle.std.specs.Result.{result_ok};
 ghost use Rattle.file_reader.specs.FullNames.{DeclaresAs, declared_above, declared_in, declared_in_all, entries_above, meaning};
-ghost use Rattle.file_reader.specs.Statements.{known_of};
+ghost use Rattle.file_reader.specs.Named.{known_of};
 ghost use Rattle.file_reader.specs.Told.{told_by};
 ghost use Rattle.firmware.specs.Piles.{parts_of};
 ghost use Rattle.firmware.specs.declared.pile.Part.TheVariants as part;
@@ -23,10 +23,11 @@ impl<'a> Reader<'a> {
     pub(crate) fn known(&self, word: Word<'a>) -> Result<Known, Complaint>
         ensures { result_ok result ≡ known_of self.now.by_name word.entry.text.now }
     {
-        match self.by_name.get(word.text) {
-            Some(known) => Ok(*known),
-            None => Err(Complaint::at(word, "no module of this name is declared above", MODULE)),
-        }
+        self.by_name.get(word.text).copied().ok_or(Complaint::at(
+            word,
+            "no module of this name is declared above",
+            MODULE,
+        ))
     }
 
     // What a part declares with a full name: nothing where it has none such.
@@ -34,10 +35,8 @@ impl<'a> Reader<'a> {
     fn declared_in(&self, part: Part, within: &'a [u8], name: &'a [u8]) -> PerNs
         ensures { result ≡ declared_in self.now.declared part within.now name.now }
     {
-        match self.declared.get(&(part, within, name)) {
-            Some(entries) => *entries,
-            None => PerNs::none(),
-        }
+        let entries = self.declared.get(&(part, within, name));
+        entries.copied().unwrap_or(PerNs::none())
     }
 
     // What a part declares first with a full name holds it there, in each namespace.

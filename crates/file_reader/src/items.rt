@@ -1,13 +1,12 @@
 // What the statements of items, macros, imports and preludes add to a file's tables and deliveries.
-ghost use Rattle.std.specs.Prelude.{◌≡◌, ◌++◌, IfOk, MatchResult, OnOk, length};
+ghost use Rattle.std.specs.Prelude.{◌≡◌, ◌++◌, IfOk, OnOk, length};
 ghost use Rattle.std.specs.Result.{result_ok};
 ghost use Rattle.file_reader.specs.Definitions.{counted, define, defined_as, imports_of, keep, keep_import, kept, styles_of};
 ghost use Rattle.file_reader.specs.FullNames.{declared_above, enum_in, enum_meant, imported, macro_meant};
 ghost use Rattle.file_reader.specs.Refusals.{IsRowNumber, NoOutcome, OnRefused};
-ghost use Rattle.file_reader.specs.Statements.{crate_of};
-ghost use Rattle.file_reader.specs.Tables.{AddsDefinition, AddsExternPrelude, AddsImport, AddsLegacy, AddsLegacyOf, AddsMacroUse, AddsPrelude, AddsVariant, IsMap};
+ghost use Rattle.file_reader.specs.Named.{crate_of, map_of};
+ghost use Rattle.file_reader.specs.Adding.{AddsDefinition, AddsExternPrelude, AddsImport, AddsLegacy, AddsLegacyOf, AddsMacroUse, AddsPrelude, AddsVariant};
 ghost use Rattle.file_reader.specs.Told.{table, told_by, with_row};
-ghost use Rattle.item_scope.specs.declared.index_data.DefMapId.{DefMapId};
 
 use crate::adding::Listed;
 use crate::reader::Reader;
@@ -108,14 +107,12 @@ impl<'a> Reader<'a> {
     fn macro_of(&self, word: Word<'a>) -> Result<MacroId, Complaint>
         ensures { result_ok result ≡ macro_meant (declared_above (told_by self.now)) word.entry.text.now }
     {
-        match self.declared_as(word)?.macros {
-            Some(item) => Ok(item.def),
-            None => Err(Complaint::at(
-                word,
-                "this is no macro",
-                "the full name of a macro declared above",
-            )),
-        }
+        let item = self.declared_as(word)?.macros.ok_or(Complaint::at(
+            word,
+            "this is no macro",
+            "the full name of a macro declared above",
+        ))?;
+        Ok(item.def)
     }
 
     fn enum_of(&self, word: Word<'a>) -> Result<EnumId, Complaint>
@@ -143,8 +140,7 @@ impl<'a> Reader<'a> {
     }
 
     fn map_of(&self, word: Word<'a>) -> Result<DefMapId, Complaint>
-        ensures { MatchResult result (IsMap (told_by self.now).above word.entry.text.now)
-            (λ _. (m : DefMapId) → ¬ (IsMap (told_by self.now).above word.entry.text.now m)) }
+        ensures { result_ok result ≡ map_of (told_by self.now).above word.entry.text.now }
     {
         self.known(word)?.root_of.ok_or(Complaint::at(
             word,
@@ -153,7 +149,7 @@ impl<'a> Reader<'a> {
         ))
     }
 
-    // The number of the definition that is told next, of that kind.
+    // Adds a definition of that kind, and answers its number.
     fn define(
         &mut self,
         kind: ItemKind,

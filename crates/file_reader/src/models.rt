@@ -3,7 +3,7 @@ ghost use Rattle.std.specs.Prelude.{◌≡◌, OnOk, vec_items};
 ghost use Rattle.std.specs.Result.{result_ok};
 ghost use Rattle.file_reader.specs.Models.{part_of, pile_over};
 ghost use Rattle.file_reader.specs.Refusals.{NoOutcome, OnRefused};
-ghost use Rattle.file_reader.specs.Tables.{AddsModel};
+ghost use Rattle.file_reader.specs.Adding.{AddsModel};
 ghost use Rattle.file_reader.specs.Told.{told_by};
 
 use crate::reader::Reader;

@@ -1,8 +1,7 @@
 // What the statements of crates, modules and blocks add to a file's tree.
-ghost use Rattle.std.specs.Prelude.{◌≡◌, IfOk, OnOk};
-ghost use Rattle.std.specs.Str.{IsUtf8};
+ghost use Rattle.std.specs.Prelude.{IfOk, OnOk};
 ghost use Rattle.file_reader.specs.Refusals.{NoOutcome, OnRefused};
-ghost use Rattle.file_reader.specs.Tables.{AddsBlock, AddsCrate, AddsInner, AddsModule, MayDeclare, standing_of};
+ghost use Rattle.file_reader.specs.Adding.{AddsBlock, AddsCrate, AddsInner, AddsModule, MayDeclare, standing_of};
 ghost use Rattle.file_reader.specs.Told.{told_by};
 
 use crate::reader::{Known, Reader};
@@ -73,14 +72,13 @@ impl<'a> Reader<'a> {
     {
         let name = self.list_name(word)?;
         let krate = CrateId(row_number(word, self.firmware.crates.len())?);
-        let root = ModuleId(row_number(word, self.firmware.modules.len())?);
-        self.firmware.crates.push(CrateRow { root, edition })?;
         let row = ModuleRow {
             krate,
             block: None,
             parent: None,
         };
-        self.add_module(word, "", name.text, row, Some(DefMapId::Crate(krate)))?;
+        let root = self.add_module(word, "", name.text, row, Some(DefMapId::Crate(krate)))?;
+        self.firmware.crates.push(CrateRow { root, edition })?;
         Ok(())
     }
 
@@ -118,17 +116,17 @@ impl<'a> Reader<'a> {
         let within = text_of(outer)?;
         let name = self.list_name(own)?;
         let block = BlockId(row_number(word, self.firmware.blocks.len())?);
-        let root = ModuleId(row_number(word, self.firmware.modules.len())?);
-        self.firmware.blocks.push(BlockRow {
-            root,
-            outside: outside.id,
-        })?;
         let row = ModuleRow {
             krate: outside.krate,
             block: Some(block),
             parent: None,
         };
-        self.add_module(word, within, name.text, row, Some(DefMapId::Block(block)))?;
+        let root =
+            self.add_module(word, within, name.text, row, Some(DefMapId::Block(block)))?;
+        self.firmware.blocks.push(BlockRow {
+            root,
+            outside: outside.id,
+        })?;
         Ok(())
     }
 }

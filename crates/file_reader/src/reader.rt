@@ -34,6 +34,7 @@ pub(crate) struct Known {
 #[derive(Drop)]
 pub(crate) struct Reader<'a> {
     pub(crate) firmware: Firmware<'a>,
+    // The modules, by their full names.
     pub(crate) by_name: BTreeMap<&'a [u8], Known>,
     // What each part declares with a kind, by what stands before the last `::` of its full name and the name after it.
     pub(crate) declared: BTreeMap<(Part, &'a [u8], &'a [u8]), PerNs>,

@@ -150,7 +150,7 @@ IsLegacy name at meant text =
     IsWord name (word 0 text) × (word 1 text ≡ codes "in") × IsWord at (word 2 text)
     × MayGoOn (codes "is") meant (after_words 3 text)
 
--- `NAME in CRATE is MEANT`
+-- `NAME in MAP is MEANT`, where the map is a crate or a block
 abbrev pub IsMeaning : Word → Word → Word → List ℕ → Type 0
 IsMeaning name within meant text =
     IsWord name (word 0 text) × (word 1 text ≡ codes "in") × IsWord within (word 2 text)

@@ -1,8 +1,8 @@
 // One statement of a firmware file, as its words say it.
 ghost use Rattle.std.specs.Prelude.{◌≡◌, ◌≢◌, ℕ, List, Option, IfOk, IfErr, codes};
-ghost use Rattle.source_text.specs.Words.{first_word, after_word};
+ghost use Rattle.source_text.specs.Words.{after_word};
 ghost use Rattle.statements.specs.Lines.{WordStandsIn, SiteStandsIn, StandsIn, AllStandIn};
-ghost use Rattle.statements.specs.Spelling.{word, after_words, IsWord, IsImportName, after_import_name, IsImport, after_import, MayGoOn, after_going_on, IsLegacy, IsMeaning, IsModel, Spells, after_statement, IsRead, IsReadable, stands_below_models};
+ghost use Rattle.statements.specs.Spelling.{word, after_words, IsImportName, after_import_name, IsImport, after_import, MayGoOn, after_going_on, IsLegacy, IsMeaning, IsModel, Spells, after_statement, IsRead, IsReadable, stands_below_models};
 ghost use Rattle.source_text.specs.declared.words.Word.{Word};
 ghost use Rattle.statements.specs.declared.clauses.Site.{Site};
 ghost use Rattle.statements.specs.declared.statement.Statement.{Statement};
@@ -19,6 +19,13 @@ use hir_def::edition::Edition;
 use source_text::words::Word;
 use troubles::complaint::Complaint;
 
+const IN_CRATE: &str = "`in` and a crate";
+
+const IN_MAP: &str = "`in` and a crate or a block";
+
+const MAP: &str = "a crate or a block";
+
+/// A statement, by its words.
 #[derive(Clone, Copy)]
 pub enum Statement<'a> {
     Crate(Word<'a>, Edition),
@@ -138,8 +145,10 @@ fn read_use<'a>(
     Ok((full, Site { name, module, vis }))
 }
 
-// `NAME in CRATE is MEANT`.
+// `NAME in MAP is MEANT`: a crate, or what else may stand there.
 fn read_meaning<'a>(
+    in_map: &'static str,
+    map: &'static str,
     expected: &'static str,
     words: &mut StatementWords<'a>,
 ) -> Result<(Word<'a>, Word<'a>, Word<'a>), Complaint>
@@ -151,8 +160,8 @@ fn read_meaning<'a>(
     ensures line { words.new.words.line ≡ words.old.words.line }
 {
     let name = words.expect("a name")?;
-    words.keyword("in", "`in` and a crate")?;
-    let within = words.expect("a crate")?;
+    words.keyword("in", in_map)?;
+    let within = words.expect(map)?;
     words.keyword("is", "`is` and what the name means")?;
     Ok((name, within, words.expect(expected)?))
 }
@@ -191,7 +200,7 @@ impl<'a> Statement<'a> {
         Ok(Some((verb, statement)))
     }
 
-    /// Whether it may stand below a model: it tells nothing of the tree, nor of the tables beside it.
+    /// Whether it may stand below a model: an item of a kind, an import, a path or a model.
     pub fn stands_below_models(self) -> bool
         ensures { result ≡ stands_below_models self.entry }
     {
@@ -259,17 +268,27 @@ impl<'a> Statement<'a> {
                 Ok(Statement::Use(Bringing::ExternCrate, full, site))
             }
             "extern-prelude" => {
-                let (name, within, meant) = read_meaning("the crate that it means", words)?;
+                let (name, within, meant) = read_meaning(
+                    IN_CRATE,
+                    "a crate",
+                    "the crate that it means",
+                    words,
+                )?;
                 Ok(Statement::ExternPrelude(name, within, meant))
             }
             "macro-use" => {
-                let (name, within, meant) = read_meaning("the full name of a macro", words)?;
+                let (name, within, meant) = read_meaning(
+                    IN_MAP,
+                    MAP,
+                    "the full name of a macro",
+                    words,
+                )?;
                 Ok(Statement::MacroUse(name, within, meant))
             }
             "prelude" => {
                 let module = words.expect("the full name of a module")?;
-                words.keyword("in", "`in` and a crate or a block")?;
-                Ok(Statement::Prelude(module, words.expect("a crate or a block")?))
+                words.keyword("in", IN_MAP)?;
+                Ok(Statement::Prelude(module, words.expect(MAP)?))
             }
             "path" => {
                 let path = words.expect("a path, as in `crate::layout::stripe_of`")?;

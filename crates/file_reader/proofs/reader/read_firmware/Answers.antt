@@ -9,18 +9,15 @@ use Rattle.file_reader.proofs.Lines.{line_at, line_taken, reads_more}
 use Rattle.file_reader.proofs.Refused.{passed}
 use Rattle.file_reader.proofs.reader.read_firmware.Goals as goal
 
--- src/reader.rt:101:5
 pub loop-i-init : goal.loop-i-init
 unfolding ReadsLines
 loop-i-init c = refl
 
--- src/reader.rt:101:5
 pub loop-i-preserved : goal.loop-i-preserved
 loop-i-preserved c =
     subst (λ ls. ReadsLines (told_by c.in_ok-reader.reader) ls (told_by c.take_line.new.self)) (sym (map-append line_at c.loop-i.yielded _))
     (reads_more _ _ _ _ _ c.loop-i.invariant (subst (λ n. ReadsLine n c.in-Some.line.now (told_by c.loop-i.reader) (told_by c.take_line.new.self)) c.line_number.ensures c.in_ok-take_line.ensures.read))
 
--- src/reader.rt:97:1
 pub returns-clause-read : goal.returns-clause-read
 unfolding Reads
 returns-clause-read c =
@@ -33,7 +30,6 @@ returns-clause-read c =
     let lines : map line_at c.loop-i.yielded ≡ lines_of c.args.text.now = end.0 in
     (told_by c.in_ok-reader.reader, told_by c.loop-i.reader, c.in_ok-reader.ensures, subst (λ ls. ReadsLines (told_by c.in_ok-reader.reader) ls (told_by c.loop-i.reader)) lines c.loop-i.invariant, refl)
 
--- src/reader.rt:106:9
 pub returns-in_err-take_line-clause-refused : goal.returns-in_err-take_line-clause-refused
 unfolding RefusesFile
 returns-in_err-take_line-clause-refused c =

@@ -1,11 +1,10 @@
 use Rattle.std.proofs.Common.{rules, refl, None}
-use Rattle.file_reader.specs.Tables.{delivering, stated}
+use Rattle.file_reader.specs.Adding.{delivering, stated}
 use Rattle.file_reader.specs.Told.{told_by}
 use Rattle.firmware.specs.declared.definition.Standing.TheVariants.{Place}
 use Rattle.file_reader.proofs.Steps.{inner_told, still_listed}
 use Rattle.file_reader.proofs.reader.Reader.add_inner.Goals as goal
 
--- src/modules.rt:88:5
 pub returns-clause-added : goal.returns-clause-added
 returns-clause-added c =
     let old = told_by c.args.self.now in
@@ -25,7 +24,7 @@ returns-clause-added c =
       _,
       name.number,
       entries,
-      (search rules, search rules, search rules, search rules),
+      (search rules, search rules, search rules),
       still_listed old (told_by c.list_name.new.self) new own.text.now name.number (search rules) c.in_ok-name.ensures.lists,
       search rules,
       refl,

@@ -1,5 +1,5 @@
 use Rattle.std.proofs.Common.{rules, length, refl}
-use Rattle.file_reader.specs.Tables.{stated}
+use Rattle.file_reader.specs.Adding.{stated}
 use Rattle.file_reader.specs.Told.{table, told_by}
 use Rattle.firmware.specs.declared.definition.Standing.TheVariants.{Variant}
 use Rattle.item_scope.specs.declared.index_data.EnumVariant.{EnumVariant}
@@ -8,7 +8,6 @@ use Rattle.statements.specs.declared.kinds.ItemKind.TheVariants as kind
 use Rattle.file_reader.proofs.Steps.{still_listed, variant_told}
 use Rattle.file_reader.proofs.reader.Reader.add_variant.Goals as goal
 
--- src/items.rt:208:5
 pub returns-clause-added : goal.returns-clause-added
 returns-clause-added c =
     let old = told_by c.args.self.now in
@@ -26,7 +25,6 @@ returns-clause-added c =
       of,
       name.number,
       row,
-      search rules,
       search rules,
       search rules,
       search rules,

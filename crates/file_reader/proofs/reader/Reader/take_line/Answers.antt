@@ -8,12 +8,10 @@ use Rattle.file_reader.proofs.Refused.{on_refused, then_refused, may_not_follow,
 use Rattle.file_reader.proofs.reader.Reader.take_line.Goals as goal
 use Rattle.file_reader.proofs.reader.Reader.take_line.Goals.{else-not-is_empty-via-then-not-is_empty+else-not-stands_below_models, else-not-is_empty-via-else-not-is_empty}
 
--- src/reader.rt:78:5
 pub returns-in_default-clause-read : goal.returns-in_default-clause-read
 unfolding ReadsLine
 returns-in_default-clause-read c = (_, None, c.of.ensures.code, subst (IsReadAt c.args.number c.of.result.words.rest.now) c.in_default.is (read_at c.of.result.words.line c.args.number c.of.result.words.rest.now c.in_ok-verb.field-0 c.of.ensures.line c.in_ok-verb.ensures.read c.in_ok-verb.ensures.line), refl)
 
--- src/reader.rt:78:5
 pub returns-clause-read : goal.returns-clause-read
 unfolding ReadsLine
 returns-clause-read c =
@@ -25,14 +23,12 @@ returns-clause-read c =
     ] in
     on_ok_weaker c.add.result (λ a. (code, Some (c.in-Some.verb, s), c.of.ensures.code, subst (IsReadAt c.args.number code) c.in-Some.is (read_at c.of.result.words.line c.args.number c.of.result.words.rest.now c.in_ok-verb.field-0 c.of.ensures.line c.in_ok-verb.ensures.read c.in_ok-verb.ensures.line), (may, a))) c.add.ensures.added
 
--- src/reader.rt:89:39
 pub returns-in_err-verb-clause-refused : goal.returns-in_err-verb-clause-refused
 unfolding RefusesLine
 returns-in_err-verb-clause-refused c =
     let why : RefusesLine c.args.number c.args.line.now (told_by c.args.self.now) = (c.of.result.words.rest.now, c.of.ensures.code, inl c.in_err-verb.ensures.refused) in
     on_refused _ why
 
--- src/reader.rt:93:13
 pub returns-then-not-stands_below_models-clause-refused : goal.returns-then-not-stands_below_models-clause-refused
 unfolding RefusesLine
 returns-then-not-stands_below_models-clause-refused c =
@@ -51,7 +47,6 @@ returns-then-not-stands_below_models-clause-refused c =
     ) in
     on_refused {T = Unit {0}} {R = Trouble} (Err c.from.result) why
 
--- src/reader.rt:85:5
 pub returns-clause-refused : goal.returns-clause-refused
 unfolding RefusesLine
 returns-clause-refused c =

@@ -1,12 +1,11 @@
 use Rattle.std.proofs.Common.{rules, sym, subst}
 use Rattle.std.proofs.lemmas.Result.{MatchResult-from_err}
 use Rattle.entries.specs.declared.visibility.Visibility.{Visibility}
-use Rattle.file_reader.specs.Statements.{Tells}
+use Rattle.file_reader.specs.Named.{Tells}
 use Rattle.statements.specs.declared.clauses.RawVisibility.{RawVisibility}
 use Rattle.file_reader.proofs.Refused.{none_told}
 use Rattle.file_reader.proofs.reader.Reader.visibility.Goals as goal
 
--- src/adding.rt:102:17
 pub returns-in_err-named-in-In : goal.returns-in_err-named-in-In
 returns-in_err-named-in-In c =
     MatchResult-from_err c.from_residual.result _ _ (search rules)

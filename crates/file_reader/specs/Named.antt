@@ -20,6 +20,14 @@ use Rattle.statements.specs.declared.clauses.RawVisibility.TheVariants as raw
 abbrev pub known_of : Modules → List ℕ → Option Known
 known_of above w = get_by (λ k. slice_cmp nat_cmp w k.now) above
 
+-- its number
+abbrev pub module_of : Modules → List ℕ → Option ModuleId
+module_of above w = option_map (λ k. k.id) (known_of above w)
+
+-- the map that it is the root of
+abbrev pub map_of : Modules → List ℕ → Option DefMapId
+map_of above w = option_and_then (λ k. k.root_of) (known_of above w)
+
 abbrev pub as_crate : Option DefMapId → Option CrateId
 as_crate (Some (map_id.Crate c)) = Some c
 as_crate m = None
@@ -30,8 +38,9 @@ crate_of above w = option_and_then (λ k. option_map (λ c. (c, k.id)) (as_crate
 
 -- a module by `#` and its number of 32 bits, or by a full name that is declared above
 abbrev pub Names : Modules → List ℕ → ModuleId → Type 0
-Names above w m = ((m.0 < 2 ^ 32) × (w ≡ codes "#" ++ decimal m.0)) ⊎ (option_map (λ k. k.id) (known_of above w) ≡ Some m)
+Names above w m = ((m.0 < 2 ^ 32) × (w ≡ codes "#" ++ decimal m.0)) ⊎ (module_of above w ≡ Some m)
 
+-- inside a module of which P holds, which is named
 abbrev IsInside : (ModuleId → Type 0) → Visibility → Type 0
 IsInside P (vis.Module m Explicit) = P m
 IsInside P (vis.Module m Implicit) = ⊥
