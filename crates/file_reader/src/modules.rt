@@ -121,8 +121,7 @@ impl<'a> Reader<'a> {
             block: Some(block),
             parent: None,
         };
-        let root =
-            self.add_module(word, within, name.text, row, Some(DefMapId::Block(block)))?;
+        let root = self.add_module(word, within, name.text, row, Some(DefMapId::Block(block)))?;
         self.firmware.blocks.push(BlockRow {
             root,
             outside: outside.id,

@@ -11,8 +11,7 @@ returns-clause-added c =
     let old = told_by c.args.self.now in
     let outer = c.in_ok-outer.outer in
     let own = c.in_ok-outer.own in
-    let listed = c.in_ok-name.ensures.lists in
-    (
+    let listed = c.in_ok-name.ensures.lists in (
       outer,
       own,
       c.in_ok-outside.outside,

@@ -1,4 +1,5 @@
 use Rattle.std.proofs.Common.{rules, [], refl, subst}
+use Rattle.file_reader.specs.Definitions.{Kept}
 use Rattle.file_reader.specs.Told.{told_by}
 use Rattle.firmware.specs.declared.definition.Standing.TheVariants.{Apart}
 use Rattle.path_text.specs.Lists.{Grows}
@@ -10,8 +11,7 @@ returns-clause-added c =
     let old = told_by c.args.self.now in
     let word = c.args.word in
     let listed = c.in_ok-name.ensures.lists in
-    let own = record { within = []; name = word.text.now; line = word.line; standing = Apart } in
-    (
+    let own : Kept = record { within = []; name = word.text.now; line = word.line; standing = Apart } in (
       c.in_ok-root.root,
       _,
       record { 0 = c.in_ok-row_number.field-0 },
