@@ -79,7 +79,7 @@ impl<'a> Words<'a> {
         }
     }
 
-    /// Where the next word begins, or the line ends: the line's number, and the column.
+    /// Where the line ends: its number, and the column past its last byte.
     pub fn end(&self) -> (usize, usize)
         ensures { (result.0 ≡ self.now.line) × (result.1 ≡ self.now.column + length self.now.rest.now) }
     {
