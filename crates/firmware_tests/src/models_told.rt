@@ -57,3 +57,18 @@ fn places_run_out(rt: HostRuntime) -> Result<(), Fail> {
     );
     Ok(())
 }
+
+// `x` and `y` each give the name `s` a meaning: in `z` over both, that of the lowest holds.
+#[test]
+fn piles_of_three(rt: HostRuntime) -> Result<(), Fail> {
+    let text =
+        b"crate a 2021\nmodule a::c\nfn p in a pub\nfn q in a pub\nmodel x\nuse a::p as s in a::c private\nmodel y over x\nuse a::q as s in a::c private\nmodel z over y\npath s from a::c\n";
+    let files = [("f.feq", text.as_slice())];
+    let (out, _) = written(rt.alloc(), &files, styled(Form::Lines), TABLE)?;
+    assert!(rt; out.as_str().contains("\nmodel z y 3\n"));
+    assert!(rt;
+        out.as_str()
+            .contains("\nanswer a::c other other - yes - - - - - fn a::p - -\n")
+    );
+    Ok(())
+}

@@ -1,5 +1,5 @@
 -- A model is what its deliveries make of the index below: the further delivery is refused, and so changes nothing.
-use Rattle.std.proofs.Common.{◌≡◌, ℕ, Bool, true, false, if◌then◌else◌, nat_lt, List, [], ◌∷◌, ◌++◌, Option, Some, None, Result, is_ok, refl, ap, ◌∙◌, sym, subst, inl, inr, rules, map}
+use Rattle.std.proofs.Common.{◌≡◌, ℕ, ◌+◌, ◌≤◌, arith, Bool, true, false, if◌then◌else◌, nat_lt, List, [], ◌∷◌, ◌++◌, Option, Some, None, Result, is_ok, refl, ap, ◌∙◌, sym, subst, inl, inr, rules, map}
 use Rattle.std.specs.Option.{option_or}
 use Rattle.std.proofs.lemmas.Bool.{cases_Bool}
 use Rattle.hir_def.specs.declared.fault.IndexFault.{IndexFault}
@@ -8,7 +8,7 @@ use Rattle.hir_def.specs.declared.fault.PathFault.{PathFault}
 use Rattle.entries.specs.Entries.{is_nothing}
 use Rattle.item_scope.specs.declared.delivery.Delivery.{Delivery}
 use Rattle.item_scope.specs.IndexData.{IndexData}
-use Rattle.item_scope.specs.Deliveries.{Takes, faulty, answer_of, delivered}
+use Rattle.item_scope.specs.Deliveries.{Takes, faulty, filled, answer_of, delivered}
 use Rattle.item_scope.specs.Views.{View}
 use Rattle.orders.specs.declared.agreement.Agreement.{Agreement}
 use Rattle.orders.specs.Agreements.{Agrees, AgreementLaw}
@@ -43,6 +43,22 @@ stays v left d r w l n t =
     let e : is_ok r ≡ false = not_taken _ _ x.0 _ r x.1 t.answers in
     t.after ∙ ap (λ (b : Bool). if b then delivered v d else v) e
 
+-- a refused delivery takes no row
+no_row : (v : View) (left : ℕ) (d : Delivery) (r : Result Bool IndexFault) (w : View) (l : ℕ) → is_nothing d.entries ≡ true → Takes v left d r w l → l ≡ left
+no_row v left d r w l n t =
+    let x = is_faulty v.fixed d n in
+    let e : is_ok r ≡ false = not_taken _ _ x.0 _ r x.1 t.answers in
+    let spares : left ≤ l + 0 = subst (λ (b : Bool). left ≤ l + (if b then filled d else 0)) e t.spares in
+    let falls : l ≤ left = t.falls in
+    omega arith
+
+like : (v w : View) (k l : ℕ) → v ≡ w → k ≡ l → state v k ≡ state w l
+like v w k l e h = cc
+
+as_it_was : (s t : State) (d : Delivery) (r : Result Bool IndexFault) → is_nothing d.entries ≡ true → Did s (Deliver d (Some r)) t → t ≡ s
+as_it_was s t d r n h =
+    like t.view s.view t.left s.left (stays s.view s.left d r t.view t.left n h) (no_row s.view s.left d r t.view t.left n h)
+
 did-told : (s t : State) (c : Call) → Did s c t → t.view ≡ told s.view c
 did-told s t c h = search rules
 
@@ -53,23 +69,23 @@ module _ (d : Delivery) (r : Result Bool IndexFault) (n : is_nothing d.entries �
   ended (x ∷ made) (next {s = s} {m = m} h k) = ended made k ∙ ap (λ v. told_after v made) (did-told s m x h)
 
 module _ (d : Delivery) (r : Result Bool IndexFault) (n : is_nothing d.entries ≡ true) where
-  -- the run before such a delivery ends in what is told after it
-  before_it : {s t : State} (made : List Call) → Ran s (made ++ Deliver d (Some r) ∷ []) t → (left : ℕ) × Ran s made (state t.view left)
-  before_it {s} {t} [] (next h done) =
-      (s.left, subst (λ (v : View). Ran s [] (state v s.left)) (sym (stays s.view s.left d r t.view t.left n h)) done)
-  before_it (x ∷ made) (next h k) = let rest = before_it made k in (rest.0, next h rest.1)
+  -- the run before such a delivery ends in what is told after it, with the rows that are left then
+  before_it : {s t : State} (made : List Call) → Ran s (made ++ Deliver d (Some r) ∷ []) t → Ran s made t
+  before_it {s} {t} [] (next h done) = subst (Ran s []) (sym (as_it_was s t d r n h)) done
+  before_it (x ∷ made) (next h k) = next h (before_it made k)
 
 -- an index over another that was tried with such a delivery
-pub run_over : (u v w : View) (k : ℕ) (given made : List Call) (q : Question) (path : ModPath) (d : Delivery) (o : Outcome) → v ≡ u → Tried (state v own_places) given made q path d o (state w k) → is_nothing d.entries ≡ true → IsRunOver u given made w
+pub run_over : (u v w : View) (k : ℕ) (given made : List Call) (q : Question) (path : ModPath) (d : Delivery) (o : Outcome) → v ≡ u → Tried (state v own_places) given made q path d o (state w k) → is_nothing d.entries ≡ true → IsRunOver u given made w k
 unfolding IsRunOver
 run_over u v w k given made q path d o e t n =
-    (t.calls, subst (λ (x : View). (left : ℕ) × Ran (state x own_places) made (state w left)) e (before_it d o.further n made t.ran))
+    (t.calls, subst (λ (x : View). Ran (state x own_places) made (state w k)) e (before_it d o.further n made t.ran))
 
 -- the same of calls in another order, which are told of a list that is another's equal
-pub run_of : (u v w : View) (l k : ℕ) (xs ys : List Delivery) (order : Order) (made : List Call) (q : Question) (path : ModPath) (d : Delivery) (o : Outcome) → xs ≡ ys → v ≡ u → l ≡ own_places → Tried (state v l) (reordered order (calls_of xs)) made q path d o (state w k) → is_nothing d.entries ≡ true → (x : View) × IsRunOver u (reordered order (calls_of ys)) made x
+pub run_of : (u v w : View) (l k : ℕ) (xs ys : List Delivery) (order : Order) (made : List Call) (q : Question) (path : ModPath) (d : Delivery) (o : Outcome) → xs ≡ ys → v ≡ u → l ≡ own_places → Tried (state v l) (reordered order (calls_of xs)) made q path d o (state w k) → is_nothing d.entries ≡ true → (x : View) × (left : ℕ) × IsRunOver u (reordered order (calls_of ys)) made x left
 run_of u v w l k xs ys order made q path d o f e h t n = (
   w,
-  subst (λ (ds : List Delivery). IsRunOver u (reordered order (calls_of ds)) made w) f
+  k,
+  subst (λ (ds : List Delivery). IsRunOver u (reordered order (calls_of ds)) made w k) f
       (run_over u v w k (reordered order (calls_of xs)) made q path d o e
       (subst (λ (x : ℕ). Tried (state v x) (reordered order (calls_of xs)) made q path d o (state w k)) h t) n),
 )

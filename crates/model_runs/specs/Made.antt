@@ -12,11 +12,11 @@ use Rattle.runs.specs.declared.calls.Call.{Call}
 abbrev pub own_places : ℕ
 own_places = 64
 
--- each delivery is taken or refused as an index takes it that tells what those before it made, and has all its own places at first
-abbrev pub IsMadeBy : List DeliveryStatement → View → View → Type 0
-IsMadeBy ss below made = (os : List Outcome) × ((left : ℕ) × Ran below own_places ss os made left)
+-- each delivery is taken or refused as an index takes it that tells what those before it made; all its own places are free at first, and then so many
+abbrev pub IsMadeBy : List DeliveryStatement → View → View → ℕ → Type 0
+IsMadeBy ss below made left = (os : List Outcome) × Ran below own_places ss os made left
 
--- Over an index each call is made in turn, with what came of it by its contract; all own places are free at first. Then it tells this.
-unfoldable pub IsRunOver : View → List Call → List Call → View → Type 0
-IsRunOver below given made after =
-    (map unmade made ≡ map unmade given) × ((left : ℕ) × runs.Ran (state below own_places) made (state after left))
+-- Over an index each call is made in turn, with what came of it by its contract; all own places are free at first. Then it tells this, and so many are free.
+unfoldable pub IsRunOver : View → List Call → List Call → View → ℕ → Type 0
+IsRunOver below given made after left =
+    (map unmade made ≡ map unmade given) × runs.Ran (state below own_places) made (state after left)

@@ -1,5 +1,5 @@
 // A model's deliveries, made in two orders to two variants over one index.
-ghost use Rattle.std.specs.Prelude.{◌≡◌, IfOk, vec_items, map, true};
+ghost use Rattle.std.specs.Prelude.{◌≡◌, ℕ, IfOk, vec_items, map, true};
 ghost use Rattle.std.specs.List.{slice_get};
 ghost use Rattle.entries.specs.Entries.{is_nothing};
 ghost use Rattle.runs.specs.Order.{Alike};
@@ -7,7 +7,7 @@ ghost use Rattle.runs.specs.Runs.{unmade, told_after};
 ghost use Rattle.item_scope.specs.Views.{View};
 ghost use Rattle.orders.specs.Agreements.{Agrees, agreement_of};
 ghost use Rattle.orders.specs.Orders.{calls_of, other_order, reordered};
-ghost use Rattle.variants.specs.Variants.{view_in};
+ghost use Rattle.variants.specs.Variants.{left_in, view_in};
 ghost use Rattle.firmware.specs.declared.pile.Part.TheVariants.{Model};
 ghost use Rattle.model_runs.specs.Calls.{result_of, result_at, outcomes_of};
 ghost use Rattle.model_runs.specs.Parts.{deliveries_in};
@@ -61,7 +61,7 @@ pub fn with_model<'a, I: Index>(
     model: usize,
     below: &'a I,
 ) -> Result<Variant<'a, I>, AllocError>
-    ensures { IfOk result (λ x. IsMadeBy (deliveries_in firmware.now (Model model)) (I.view below.entry.now) (view_in x)) }
+    ensures { IfOk result (λ x. IsMadeBy (deliveries_in firmware.now (Model model)) (I.view below.entry.now) (view_in x) (left_in x)) }
 {
     let mut variant = Variant::new(below);
     let statements = firmware.deliveries_of(Part::Model(model));
@@ -92,10 +92,10 @@ pub fn make_model<'a, I: Index>(
     ensures calls { IfOk result (λ m. map unmade m.orders.first.items ≡ calls_of (map (λ s. s.delivery) statements.now)) }
     // What came of the deliveries is what is told of them, in their order and in the other one.
     ensures first { IfOk result (λ m. IsRunOver (I.view below.entry.now)
-        (calls_of (map (λ s. s.delivery) statements.now)) m.orders.first.items (view_in m.index)) }
+        (calls_of (map (λ s. s.delivery) statements.now)) m.orders.first.items (view_in m.index) (left_in m.index)) }
     ensures order { IfOk result (λ m. m.orders.order ≡ other_order (calls_of (map (λ s. s.delivery) statements.now))) }
-    ensures second { IfOk result (λ m. (w : View) × IsRunOver (I.view below.entry.now)
-        (reordered m.orders.order (calls_of (map (λ s. s.delivery) statements.now))) m.orders.second.items w) }
+    ensures second { IfOk result (λ m. (w : View) × (left : ℕ) × IsRunOver (I.view below.entry.now)
+        (reordered m.orders.order (calls_of (map (λ s. s.delivery) statements.now))) m.orders.second.items w left) }
     ensures agreement { IfOk result (λ m. m.orders.agreement
         ≡ agreement_of (reordered m.orders.order m.orders.first.items) m.orders.second.items) }
     // Where the orders agree, every question has one answer in both.
