@@ -1,13 +1,15 @@
 -- What a refusal comes to.
-use Rattle.std.proofs.Common.{◌≡◌, ◌≢◌, false, inl, inr, Ok, Err, Result, [], List, ℕ, Option, subst}
+use Rattle.std.proofs.Common.{◌≡◌, ◌≢◌, false, inl, inr, Ok, Err, Result, [], List, ℕ, Option, subst, sym}
+use Rattle.std.specs.Result.{IfErr}
 use Rattle.entries.specs.declared.visibility.Visibility.{Visibility}
 use Rattle.entries.specs.declared.visibility.Visibility.TheVariants as vis
 use Rattle.entries.specs.declared.visibility.VisibilityExplicitness.TheVariants.{Explicit, Implicit}
 use Rattle.file_reader.specs.Reading.{IsReadAt, MayFollow}
-use Rattle.file_reader.specs.Refusals.{OnRefused}
+use Rattle.file_reader.specs.Refusals.{OnRefused, ToldAt}
 use Rattle.file_reader.specs.Named.{Names, Tells}
 use Rattle.file_reader.specs.declared.reader.Known.{Known}
 use Rattle.file_reader.specs.Told.{Modules, Told}
+use Rattle.hir_def.specs.Faults.{IfRefused}
 use Rattle.hir_def.specs.declared.ModuleId.{ModuleId}
 use Rattle.hir_def.specs.declared.fault.Failure.{Failure}
 use Rattle.hir_def.specs.declared.fault.Failure.TheVariants.{Memory, Refused}
@@ -16,6 +18,9 @@ use Rattle.statements.specs.Lines.{AllStandIn}
 use Rattle.statements.specs.Spelling.{IsRead, stands_below_models}
 use Rattle.statements.specs.declared.clauses.RawVisibility.TheVariants as raw
 use Rattle.statements.specs.declared.statement.Statement.{Statement}
+use Rattle.troubles.specs.declared.complaint.Complaint.{Complaint}
+use Rattle.troubles.specs.declared.trouble.Trouble.{Trouble}
+use Rattle.troubles.specs.declared.trouble.Trouble.TheVariants.{Text}
 
 -- what holds whatever the outcome is
 pub on_refused : {T R P : Type 0} (r : Result T (Failure R)) → P → OnRefused r P
@@ -30,13 +35,17 @@ then_refused (Err (Memory e)) f h = tt
 then_refused (Err (Refused r)) f h = f h
 
 -- a failure is passed on as it is
-pub passed : {T U R P Q : Type 0} (r : Result T (Failure R)) (s : Result U (Failure R)) (e : Failure R)
-    → r ≡ Err e → s ≡ Err e → (P → Q) → OnRefused r P → OnRefused s Q
-passed (Ok x) s e h k f p = absurd (cc)
-passed (Err a) (Ok x) e h k f p = tt
-passed (Err a) (Err (Memory m)) e h k f p = tt
-passed (Err (Memory n)) (Err (Refused d)) e h k f p = absurd (cc)
-passed (Err (Refused b)) (Err (Refused d)) e h k f p = f p
+pub passed : {T U R P : Type 0} (I Q : R → Type 0) (r : Result T (Failure R)) (s : Result U (Failure R)) (e : Failure R)
+    → r ≡ Err e → s ≡ Err e → ((t : R) → P → I t → Q t) → OnRefused r P → IfErr r (IfRefused I) → IfErr s (IfRefused Q)
+passed I Q (Ok x) s e h k f p i = absurd (cc)
+passed I Q (Err a) (Ok x) e h k f p i = tt
+passed I Q (Err a) (Err (Memory m)) e h k f p i = tt
+passed I Q (Err (Memory n)) (Err (Refused d)) e h k f p i = absurd (cc)
+passed I Q (Err (Refused b)) (Err (Refused d)) e h k f p i = let same : b ≡ d = cc in f d p (subst I same i)
+
+-- what is wrong with a statement is told in its line
+pub told_at : {T : Type 0} (r : Result T (Failure Trouble)) (c : Complaint) (n : ℕ) → r ≡ Err (Refused (Text c)) → c.line ≡ n → ToldAt n r
+told_at r c n e h = subst (ToldAt n) (sym e) h
 
 -- where no module is named, no visibility is told
 pub none_told : (above : Modules) (at : Known) (w : Word)

@@ -3,13 +3,14 @@ use Rattle.std.specs.Prelude.{◌≡◌, ◌⊎◌, ℕ, ◌+◌, ◌-◌, ◌^�
 use Rattle.std.specs.List.{enumerate_from, slice_split}
 use Rattle.file_reader.specs.Adding.{Adds}
 use Rattle.file_reader.specs.Nothing.{IsNew}
-use Rattle.file_reader.specs.Refusals.{NoOutcome}
+use Rattle.file_reader.specs.Refusals.{IsIn, NoOutcome}
 use Rattle.file_reader.specs.Told.{Told, told}
 use Rattle.firmware.specs.declared.file.Firmware.{Firmware}
 use Rattle.source_text.specs.declared.words.Word.{Word}
 use Rattle.statements.specs.Lines.{AllStandIn}
 use Rattle.statements.specs.Spelling.{BeforeComment, IsRead, IsReadable, stands_below_models}
 use Rattle.statements.specs.declared.statement.Statement.{Statement}
+use Rattle.troubles.specs.declared.trouble.Trouble.{Trouble}
 
 -- Once a model is told, only some statements may follow.
 abbrev pub MayFollow : Statement → Told → Type 0
@@ -56,8 +57,9 @@ RefusesLine number line old =
     × ((¬ (IsReadable code))
     ⊎ ((o : Option (Word × Statement)) × IsReadAt number code o × NoOutcome (AddsRead o old)))
 
--- Why a file is refused: the lines before one of its lines are read from where nothing is told yet, and that line is refused.
-unfoldable pub RefusesFile : List ℕ → Type 0
-RefusesFile text =
+-- Why a file is refused: the lines before one of its lines are read from where nothing is told yet, and that line is refused. It is told in that line.
+unfoldable pub RefusesFile : List ℕ → Trouble → Type 0
+RefusesFile text trouble =
     (before : List (ℕ × List ℕ)) × (line : ℕ × List ℕ) × (after : List (ℕ × List ℕ)) × (first : Told) × (last : Told)
     × (lines_of text ≡ before ++ line ∷ after) × IsNew first × ReadsLines first before last × RefusesLine (line_number line.0) line.1 last
+    × IsIn (line_number line.0) trouble

@@ -1,6 +1,6 @@
 // What statements of several kinds add to a file: names, items, deliveries and paths.
-ghost use Rattle.std.specs.Prelude.{◌≡◌, ◌∷◌, ◌++◌, [], IfOk, IfErr, MatchResult, OnOk, Option};
-ghost use Rattle.file_reader.specs.Refusals.{IsListable, NoOutcome, OnRefused};
+ghost use Rattle.std.specs.Prelude.{◌≡◌, ◌∷◌, ◌++◌, [], ℕ, IfOk, IfErr, MatchResult, OnOk, Option};
+ghost use Rattle.file_reader.specs.Refusals.{IsListable, NoOutcome, OnRefused, ToldAt};
 ghost use Rattle.file_reader.specs.Named.{Names, Tells};
 ghost use Rattle.file_reader.specs.Adding.{Asks, AddsPath, AddsItem, Lists, Stands};
 ghost use Rattle.file_reader.specs.Told.{told_by};
@@ -8,6 +8,7 @@ ghost use Rattle.file_reader.specs.declared.reader.Known.{Known};
 ghost use Rattle.entries.specs.declared.visibility.Visibility.{Visibility};
 ghost use Rattle.hir_def.specs.declared.ModuleId.{ModuleId};
 ghost use Rattle.path_resolution.specs.declared.question.Question.{Question};
+ghost use Rattle.statements.specs.Lines.{AskingStandsIn, SiteStandsIn, ToldIn, VisibilityStandsIn};
 
 use crate::reader::{Known, Reader};
 use entries::per_ns::PerNs;
@@ -48,6 +49,7 @@ impl<'a> Reader<'a> {
         ensures lists { IfOk result (λ l. Lists (told_by self.old) word.entry.text.now l.number (told_by self.new)) }
         ensures word { IfOk result (λ l. (l.word ≡ word.entry) × (l.text.now ≡ word.entry.text.now)) }
         ensures refused { OnRefused result (¬ (IsListable word.entry.text.now)) }
+        ensures line { ToldAt word.entry.line result }
     {
         let text = name_of(word)?;
         self.firmware.list.add(word.text)?;
@@ -89,8 +91,9 @@ impl<'a> Reader<'a> {
 
     // The module of `pub(in MODULE)`.
     fn named(&self, word: Word<'a>) -> Result<ModuleId, Complaint>
-        ensures { MatchResult result (Names (told_by self.now).above word.entry.text.now)
+        ensures named { MatchResult result (Names (told_by self.now).above word.entry.text.now)
             (λ _. (m : ModuleId) → ¬ (Names (told_by self.now).above word.entry.text.now m)) }
+        ensures line { ToldIn word.entry.line result }
     {
         match numbered(word.text) {
             Some(row) => Ok(ModuleId(row)),
@@ -103,8 +106,9 @@ impl<'a> Reader<'a> {
         at: Known,
         raw: RawVisibility<'a>,
     ) -> Result<Visibility, Complaint>
-        ensures { MatchResult result (Tells (told_by self.now).above at raw.entry)
+        ensures tells { MatchResult result (Tells (told_by self.now).above at raw.entry)
             (λ _. (v : Visibility) → ¬ (Tells (told_by self.now).above at raw.entry v)) }
+        ensures line { (n : ℕ) → VisibilityStandsIn n raw.entry → ToldIn n result }
     {
         match raw {
             RawVisibility::Public => Ok(Visibility::Public),
@@ -124,6 +128,7 @@ impl<'a> Reader<'a> {
         ensures stands { IfOk result (λ p. Stands (told_by self.now).above site.entry p.known p.vis) }
         ensures module { IfOk result (λ p. p.«module».now ≡ site.entry.«module».text.now) }
         ensures refused { IfErr result (λ _. (at : Known) (v : Visibility) → ¬ (Stands (told_by self.now).above site.entry at v)) }
+        ensures line { (n : ℕ) → SiteStandsIn n site.entry → ToldIn n result }
     {
         let known = self.known(site.module)?;
         Ok(Place {
@@ -143,6 +148,7 @@ impl<'a> Reader<'a> {
         ensures module { IfOk result (λ p. p.1.«module».now ≡ site.entry.«module».text.now) }
         ensures refused { OnRefused result ((at : Known) → (v : Visibility) →
             ¬ (Stands (told_by self.old).above site.entry at v × IsListable site.entry.name.text.now)) }
+        ensures line { (n : ℕ) → SiteStandsIn n site.entry → ToldAt n result }
     {
         let place = self.place(site)?;
         let name = self.list_name(site.name)?;
@@ -156,8 +162,9 @@ impl<'a> Reader<'a> {
 
     // What is asked of a path, if anyone asks it.
     fn question(&self, asking: Option<Asking<'a>>) -> Result<Option<Question>, Complaint>
-        ensures { MatchResult result (Asks (told_by self.now).above asking.entry)
+        ensures asks { MatchResult result (Asks (told_by self.now).above asking.entry)
             (λ _. (q : Option Question) → ¬ (Asks (told_by self.now).above asking.entry q)) }
+        ensures line { (n : ℕ) → AskingStandsIn n asking.entry → ToldIn n result }
     {
         match asking {
             Some(asking) => Ok(Some(asking.question(self.known(asking.module)?.id))),
@@ -172,6 +179,7 @@ impl<'a> Reader<'a> {
     ) -> Result<(), Failure<Trouble>>
         ensures added { OnOk result (AddsPath (told_by self.old) text.entry asking.entry (told_by self.new)) }
         ensures refused { OnRefused result (NoOutcome (AddsPath (told_by self.old) text.entry asking.entry)) }
+        ensures line { (n : ℕ) → AskingStandsIn n asking.entry → ToldAt n result }
     {
         let question = self.question(asking)?;
         self.firmware.paths.push(text)?;

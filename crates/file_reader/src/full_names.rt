@@ -6,6 +6,7 @@ ghost use Rattle.file_reader.specs.Named.{known_of};
 ghost use Rattle.file_reader.specs.Told.{told_by};
 ghost use Rattle.firmware.specs.Piles.{parts_of};
 ghost use Rattle.firmware.specs.declared.pile.Part.TheVariants as part;
+ghost use Rattle.statements.specs.Lines.{ToldIn};
 
 use crate::reader::{Known, Reader};
 use entries::per_ns::PerNs;
@@ -21,7 +22,8 @@ const MODULE: &str = "the full name of a module declared above, as in `raid::lay
 
 impl<'a> Reader<'a> {
     pub(crate) fn known(&self, word: Word<'a>) -> Result<Known, Complaint>
-        ensures { result_ok result ≡ known_of self.now.by_name word.entry.text.now }
+        ensures known { result_ok result ≡ known_of self.now.by_name word.entry.text.now }
+        ensures line { ToldIn word.entry.line result }
     {
         self.by_name.get(word.text).copied().ok_or(Complaint::at(
             word,
@@ -94,7 +96,8 @@ impl<'a> Reader<'a> {
     // What the file declares above with that full name and a kind, in the base or in the pile; a crate too.
     #[tactic(auto, unfolding(crate::specs::FullNames::meaning))]
     pub(crate) fn declared_as(&self, word: Word<'a>) -> Result<PerNs, Complaint>
-        ensures { result_ok result ≡ meaning (declared_above (told_by self.now)) word.entry.text.now }
+        ensures meaning { result_ok result ≡ meaning (declared_above (told_by self.now)) word.entry.text.now }
+        ensures line { ToldIn word.entry.line result }
     {
         let Ok((outer, name)) = split(word) else {
             let def = ModuleDefId::ModuleId(self.known(word)?.id);

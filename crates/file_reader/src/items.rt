@@ -1,12 +1,13 @@
 // What the statements of items, macros, imports and preludes add to a file's tables and deliveries.
-ghost use Rattle.std.specs.Prelude.{◌≡◌, ◌++◌, IfOk, OnOk, length};
+ghost use Rattle.std.specs.Prelude.{◌≡◌, ◌++◌, ℕ, IfOk, OnOk, length};
 ghost use Rattle.std.specs.Result.{result_ok};
 ghost use Rattle.file_reader.specs.Definitions.{counted, define, defined_as, imports_of, keep, keep_import, kept, styles_of};
 ghost use Rattle.file_reader.specs.FullNames.{declared_above, enum_in, enum_meant, imported, macro_meant};
-ghost use Rattle.file_reader.specs.Refusals.{IsRowNumber, NoOutcome, OnRefused};
+ghost use Rattle.file_reader.specs.Refusals.{IsRowNumber, NoOutcome, OnRefused, ToldAt};
 ghost use Rattle.file_reader.specs.Named.{crate_of, map_of};
 ghost use Rattle.file_reader.specs.Adding.{AddsDefinition, AddsExternPrelude, AddsImport, AddsLegacy, AddsLegacyOf, AddsMacroUse, AddsPrelude, AddsVariant};
 ghost use Rattle.file_reader.specs.Told.{table, told_by, with_row};
+ghost use Rattle.statements.specs.Lines.{SiteStandsIn, ToldIn};
 
 use crate::adding::Listed;
 use crate::reader::Reader;
@@ -105,7 +106,8 @@ fn enum_in(entries: PerNs) -> Option<EnumId>
 
 impl<'a> Reader<'a> {
     fn macro_of(&self, word: Word<'a>) -> Result<MacroId, Complaint>
-        ensures { result_ok result ≡ macro_meant (declared_above (told_by self.now)) word.entry.text.now }
+        ensures meant { result_ok result ≡ macro_meant (declared_above (told_by self.now)) word.entry.text.now }
+        ensures line { ToldIn word.entry.line result }
     {
         let item = self.declared_as(word)?.macros.ok_or(Complaint::at(
             word,
@@ -116,7 +118,8 @@ impl<'a> Reader<'a> {
     }
 
     fn enum_of(&self, word: Word<'a>) -> Result<EnumId, Complaint>
-        ensures { result_ok result ≡ enum_meant (declared_above (told_by self.now)) word.entry.text.now }
+        ensures meant { result_ok result ≡ enum_meant (declared_above (told_by self.now)) word.entry.text.now }
+        ensures line { ToldIn word.entry.line result }
     {
         enum_in(self.declared_as(word)?).ok_or(Complaint::at(
             word,
@@ -126,7 +129,8 @@ impl<'a> Reader<'a> {
     }
 
     fn crate_of(&self, word: Word<'a>) -> Result<(CrateId, ModuleId), Complaint>
-        ensures { result_ok result ≡ crate_of (told_by self.now).above word.entry.text.now }
+        ensures found { result_ok result ≡ crate_of (told_by self.now).above word.entry.text.now }
+        ensures line { ToldIn word.entry.line result }
     {
         let known = self.known(word)?;
         match known.root_of {
@@ -140,7 +144,8 @@ impl<'a> Reader<'a> {
     }
 
     fn map_of(&self, word: Word<'a>) -> Result<DefMapId, Complaint>
-        ensures { result_ok result ≡ map_of (told_by self.now).above word.entry.text.now }
+        ensures found { result_ok result ≡ map_of (told_by self.now).above word.entry.text.now }
+        ensures line { ToldIn word.entry.line result }
     {
         self.known(word)?.root_of.ok_or(Complaint::at(
             word,
@@ -165,6 +170,7 @@ impl<'a> Reader<'a> {
         }) }
         ensures number { OnOk result (IsRowNumber (length (defined_as (told_by self.old).definitions kind))) }
         ensures refused { OnRefused result (¬ (IsRowNumber (length (defined_as (told_by self.old).definitions kind)))) }
+        ensures line { ToldAt name.entry.word.line result }
     {
         let definition = Definition {
             within,
@@ -192,6 +198,7 @@ impl<'a> Reader<'a> {
     ) -> Result<(), Failure<Trouble>>
         ensures added { OnOk result (AddsDefinition (told_by self.old) kind site.entry (told_by self.new)) }
         ensures refused { OnRefused result (NoOutcome (AddsDefinition (told_by self.old) kind site.entry)) }
+        ensures line { (n : ℕ) → SiteStandsIn n site.entry → ToldAt n result }
     {
         let (name, place) = self.add_item(site)?;
         let number = self.define(kind, Standing::Place, name, place.module)?;
@@ -208,6 +215,7 @@ impl<'a> Reader<'a> {
     ) -> Result<(), Failure<Trouble>>
         ensures added { OnOk result (AddsVariant (told_by self.old) word.entry shape (told_by self.new)) }
         ensures refused { OnRefused result (NoOutcome (AddsVariant (told_by self.old) word.entry shape)) }
+        ensures line { ToldAt word.entry.line result }
     {
         let (outer, own) = split(word)?;
         let of = self.enum_of(outer)?;
@@ -236,6 +244,7 @@ impl<'a> Reader<'a> {
     ) -> Result<(), Failure<Trouble>>
         ensures added { OnOk result (AddsLegacy (told_by self.old) word.entry «module».entry (told_by self.new)) }
         ensures refused { OnRefused result (NoOutcome (AddsLegacy (told_by self.old) word.entry «module».entry)) }
+        ensures line { «module».entry.line ≡ word.entry.line → ToldAt word.entry.line result }
     {
         let at = self.known(module)?.id;
         let within = text_of(module)?;
@@ -268,6 +277,7 @@ impl<'a> Reader<'a> {
     ) -> Result<(), Failure<Trouble>>
         ensures added { OnOk result (AddsLegacyOf (told_by self.old) word.entry «module».entry meant.entry (told_by self.new)) }
         ensures refused { OnRefused result (NoOutcome (AddsLegacyOf (told_by self.old) word.entry «module».entry meant.entry)) }
+        ensures line { «module».entry.line ≡ word.entry.line → meant.entry.line ≡ word.entry.line → ToldAt word.entry.line result }
     {
         let at = self.known(module)?.id;
         let def = self.macro_of(meant)?;
@@ -278,7 +288,8 @@ impl<'a> Reader<'a> {
 
     // What an import of that kind brings by a full name.
     fn imported(&self, bringing: Bringing, full: Word<'a>) -> Result<PerNs, Complaint>
-        ensures { result_ok result ≡ imported (declared_above (told_by self.now)) bringing full.entry.text.now }
+        ensures brings { result_ok result ≡ imported (declared_above (told_by self.now)) bringing full.entry.text.now }
+        ensures line { ToldIn full.entry.line result }
     {
         match bringing {
             Bringing::ExternCrate => {
@@ -299,6 +310,7 @@ impl<'a> Reader<'a> {
     ) -> Result<(), Failure<Trouble>>
         ensures added { OnOk result (AddsImport (told_by self.old) bringing full.entry site.entry (told_by self.new)) }
         ensures refused { OnRefused result (NoOutcome (AddsImport (told_by self.old) bringing full.entry site.entry)) }
+        ensures line { SiteStandsIn full.entry.line site.entry → ToldAt full.entry.line result }
     {
         let place = self.place(site)?;
         let entries = with_visibility(self.imported(bringing, full)?, place.vis);
@@ -323,6 +335,7 @@ impl<'a> Reader<'a> {
     ) -> Result<(), Failure<Trouble>>
         ensures added { OnOk result (AddsExternPrelude (told_by self.old) word.entry krate.entry meant.entry (told_by self.new)) }
         ensures refused { OnRefused result (NoOutcome (AddsExternPrelude (told_by self.old) word.entry krate.entry meant.entry)) }
+        ensures line { krate.entry.line ≡ word.entry.line → meant.entry.line ≡ word.entry.line → ToldAt word.entry.line result }
     {
         let (krate, _) = self.crate_of(krate)?;
         let (_, module) = self.crate_of(meant)?;
@@ -343,6 +356,7 @@ impl<'a> Reader<'a> {
     ) -> Result<(), Failure<Trouble>>
         ensures added { OnOk result (AddsMacroUse (told_by self.old) word.entry map.entry meant.entry (told_by self.new)) }
         ensures refused { OnRefused result (NoOutcome (AddsMacroUse (told_by self.old) word.entry map.entry meant.entry)) }
+        ensures line { map.entry.line ≡ word.entry.line → meant.entry.line ≡ word.entry.line → ToldAt word.entry.line result }
     {
         let map = self.map_of(map)?;
         let def = self.macro_of(meant)?;
@@ -362,6 +376,7 @@ impl<'a> Reader<'a> {
     ) -> Result<(), Failure<Trouble>>
         ensures added { OnOk result (AddsPrelude (told_by self.old) «module».entry map.entry (told_by self.new)) }
         ensures refused { OnRefused result (NoOutcome (AddsPrelude (told_by self.old) «module».entry map.entry)) }
+        ensures line { map.entry.line ≡ «module».entry.line → ToldAt «module».entry.line result }
     {
         let of = self.map_of(map)?;
         let prelude = self.known(module)?.id;

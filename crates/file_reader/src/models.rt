@@ -2,9 +2,10 @@
 ghost use Rattle.std.specs.Prelude.{◌≡◌, OnOk, vec_items};
 ghost use Rattle.std.specs.Result.{result_ok};
 ghost use Rattle.file_reader.specs.Models.{part_of, pile_over};
-ghost use Rattle.file_reader.specs.Refusals.{NoOutcome, OnRefused};
+ghost use Rattle.file_reader.specs.Refusals.{NoOutcome, OnRefused, ToldAt};
 ghost use Rattle.file_reader.specs.Adding.{AddsModel};
 ghost use Rattle.file_reader.specs.Told.{told_by};
+ghost use Rattle.statements.specs.Lines.{ToldIn, WordStandsIn};
 
 use crate::reader::Reader;
 use firmware::models::Model;
@@ -28,8 +29,9 @@ impl<'a> Reader<'a> {
 
     // The pile of a model over the one of that name.
     fn pile_over(&self, word: Word<'a>, model: usize) -> Result<Pile, Complaint>
-        ensures { result_ok result
+        ensures pile { result_ok result
             ≡ pile_over self.now.model_numbers (vec_items self.now.firmware.models) word.entry.text.now model }
+        ensures line { ToldIn word.entry.line result }
     {
         let below = match self.model_numbers.get(word.text) {
             Some(number) => self.firmware.models.get(*number),
@@ -57,6 +59,7 @@ impl<'a> Reader<'a> {
     ) -> Result<(), Failure<Trouble>>
         ensures added { OnOk result (AddsModel (told_by self.old) word.entry below.entry (told_by self.new)) }
         ensures refused { OnRefused result (NoOutcome (AddsModel (told_by self.old) word.entry below.entry)) }
+        ensures line { WordStandsIn word.entry.line below.entry → ToldAt word.entry.line result }
     {
         if self.model_numbers.contains_key(word.text) {
             return Err(Failure::from(Complaint::at(
@@ -83,7 +86,9 @@ impl<'a> Reader<'a> {
 }
 
 /// What cannot stand below a model, told at the first word of the statement.
-pub(crate) fn below_a_model(verb: Word) -> Complaint {
+pub(crate) fn below_a_model(verb: Word) -> Complaint
+    ensures { result.line ≡ verb.entry.line }
+{
     Complaint::at(
         verb,
         "this cannot stand below a model",

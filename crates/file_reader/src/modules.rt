@@ -1,8 +1,9 @@
 // What the statements of crates, modules and blocks add to a file's tree.
 ghost use Rattle.std.specs.Prelude.{IfOk, OnOk};
-ghost use Rattle.file_reader.specs.Refusals.{NoOutcome, OnRefused};
+ghost use Rattle.file_reader.specs.Refusals.{NoOutcome, OnRefused, ToldAt};
 ghost use Rattle.file_reader.specs.Adding.{AddsBlock, AddsCrate, AddsInner, AddsModule, MayDeclare, standing_of};
 ghost use Rattle.file_reader.specs.Told.{told_by};
+ghost use Rattle.statements.specs.Lines.{VisibilityStandsIn};
 
 use crate::reader::{Known, Reader};
 use entries::per_ns::PerNs;
@@ -32,6 +33,7 @@ impl<'a> Reader<'a> {
             (record { within = within.entry.now; name = name.entry.now; line = word.entry.line; standing = standing_of root_of })
             row root_of id (told_by self.new)) }
         ensures refused { OnRefused result (¬ (MayDeclare (told_by self.old) word.entry)) }
+        ensures line { ToldAt word.entry.line result }
     {
         if self.by_name.contains_key(word.text) {
             return Err(Failure::from(Complaint::at(
@@ -69,6 +71,7 @@ impl<'a> Reader<'a> {
     ) -> Result<(), Failure<Trouble>>
         ensures added { OnOk result (AddsCrate (told_by self.old) word.entry edition (told_by self.new)) }
         ensures refused { OnRefused result (NoOutcome (AddsCrate (told_by self.old) word.entry edition)) }
+        ensures line { ToldAt word.entry.line result }
     {
         let name = self.list_name(word)?;
         let krate = CrateId(row_number(word, self.firmware.crates.len())?);
@@ -90,6 +93,7 @@ impl<'a> Reader<'a> {
     ) -> Result<(), Failure<Trouble>>
         ensures added { OnOk result (AddsInner (told_by self.old) word.entry raw.entry (told_by self.new)) }
         ensures refused { OnRefused result (NoOutcome (AddsInner (told_by self.old) word.entry raw.entry)) }
+        ensures line { VisibilityStandsIn word.entry.line raw.entry → ToldAt word.entry.line result }
     {
         let (outer, own) = split(word)?;
         let parent = self.known(outer)?;
@@ -110,6 +114,7 @@ impl<'a> Reader<'a> {
     pub(crate) fn add_block(&mut self, word: Word<'a>) -> Result<(), Failure<Trouble>>
         ensures added { OnOk result (AddsBlock (told_by self.old) word.entry (told_by self.new)) }
         ensures refused { OnRefused result (NoOutcome (AddsBlock (told_by self.old) word.entry)) }
+        ensures line { ToldAt word.entry.line result }
     {
         let (outer, own) = split(word)?;
         let outside = self.known(outer)?;

@@ -1,10 +1,12 @@
 // Reads a firmware file, statement by statement.
-ghost use Rattle.std.specs.Prelude.{◌≡◌, IfOk, OnOk};
+ghost use Rattle.std.specs.Prelude.{◌≡◌, ℕ, IfErr, IfOk, OnOk};
+ghost use Rattle.hir_def.specs.Faults.{IfRefused};
 ghost use Rattle.file_reader.specs.Adding.{Adds};
 ghost use Rattle.file_reader.specs.Nothing.{IsNew};
 ghost use Rattle.file_reader.specs.Reading.{ReadsLine, Reads, RefusesFile, RefusesLine, line_number};
-ghost use Rattle.file_reader.specs.Refusals.{NoOutcome, OnRefused};
+ghost use Rattle.file_reader.specs.Refusals.{NoOutcome, OnRefused, ToldAt};
 ghost use Rattle.file_reader.specs.Told.{told_by};
+ghost use Rattle.statements.specs.Lines.{StandsIn};
 
 use crate::models::below_a_model;
 use crate::nothing::nothing;
@@ -57,6 +59,7 @@ impl<'a> Reader<'a> {
     fn add(&mut self, statement: Statement<'a>) -> Result<(), Failure<Trouble>>
         ensures added { OnOk result (Adds statement.entry (told_by self.old) (told_by self.new)) }
         ensures refused { OnRefused result (NoOutcome (Adds statement.entry (told_by self.old))) }
+        ensures line { (n : ℕ) → StandsIn n statement.entry → ToldAt n result }
     {
         match statement {
             Statement::Crate(name, edition) => self.add_crate(name, edition),
@@ -87,6 +90,7 @@ impl<'a> Reader<'a> {
     fn take_line(&mut self, line: &'a [u8], number: usize) -> Result<(), Failure<Trouble>>
         ensures read { OnOk result (ReadsLine number line.now (told_by self.old) (told_by self.new)) }
         ensures refused { OnRefused result (RefusesLine number line.now (told_by self.old)) }
+        ensures line { ToldAt number result }
     {
         let Some((verb, statement)) = Statement::of(StatementWords::of(line, number))? else {
             return Ok(());
@@ -108,7 +112,7 @@ fn line_number(before: usize) -> usize
 /// Reads a whole file, or says what is wrong with its first bad line.
 pub fn read_firmware<'a>(alloc: Global, text: &'a [u8]) -> Result<Firmware<'a>, Failure<Trouble>>
     ensures read { IfOk result (Reads text.now) }
-    ensures refused { OnRefused result (RefusesFile text.now) }
+    ensures refused { IfErr result (IfRefused (RefusesFile text.now)) }
 {
     let mut reader = Reader::new(alloc)?;
     for (i, line) in text.split(|b| *b == b'\n').enumerate() {

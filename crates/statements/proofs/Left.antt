@@ -108,14 +108,14 @@ module _ (verb text : List ℕ) where
   left_of (statement.Defined kind.Const s) h = left_of_site text s h.1 ∙ at_word (codes "const") h.0
   left_of (statement.Defined kind.Static s) h = left_of_site text s h.1 ∙ at_word (codes "static") h.0
   left_of (statement.Defined (kind.Struct shape) s) h =
-      ap after_word (left_of_site text s h.1) ∙ at_word (codes "struct") h.0.0
+      ap after_word (left_of_site text s h.1) ∙ at_word (codes "struct") h.0
   left_of (statement.Defined kind.Union s) h = left_of_site text s h.1 ∙ at_word (codes "union") h.0
   left_of (statement.Defined kind.Enum s) h = left_of_site text s h.1 ∙ at_word (codes "enum") h.0
   left_of (statement.Defined kind.Trait s) h = left_of_site text s h.1 ∙ at_word (codes "trait") h.0
   left_of (statement.Defined kind.TypeAlias s) h = left_of_site text s h.1 ∙ at_word (codes "type") h.0
   left_of (statement.Defined (kind.Macro styles) s) h =
-      ap (after_words 3) (left_of_site text s h.1) ∙ at_word (codes "macro") h.0.0
-  left_of (statement.Defined (kind.Variant shape) s) h = absurd h.0
+      ap (after_words 3) (left_of_site text s h.1) ∙ at_word (codes "macro") h.0
+  left_of (statement.Defined (kind.Variant shape) s) h = absurd h.2
   left_of (statement.Variant name shape) h = at_word (codes "variant") h.0
   left_of (statement.LegacyMacro name at meant) h =
       left_of_more (codes "is") (after_words 3 text) meant refl refl h.1.3 ∙ at_word (codes "legacy-macro") h.0

@@ -1,5 +1,5 @@
--- The line that the words of a statement stand in.
-use Rattle.std.specs.Prelude.{◌≡◌, ⊤, ℕ, Option, IfSome}
+-- The line that the words of a statement stand in, and in which it is told what is wrong.
+use Rattle.std.specs.Prelude.{◌≡◌, ⊤, ℕ, Option, IfSome, Result, IfErr}
 use Rattle.source_text.specs.declared.words.Word.{Word}
 use Rattle.statements.specs.declared.asking.Asking.{Asking}
 use Rattle.statements.specs.declared.clauses.RawVisibility.{RawVisibility}
@@ -7,6 +7,7 @@ use Rattle.statements.specs.declared.clauses.RawVisibility.TheVariants as raw
 use Rattle.statements.specs.declared.clauses.Site.{Site}
 use Rattle.statements.specs.declared.statement.Statement.{Statement}
 use Rattle.statements.specs.declared.statement.Statement.TheVariants as statement
+use Rattle.troubles.specs.declared.complaint.Complaint.{Complaint}
 
 -- the word, if there is one, is of the line with that number
 abbrev pub WordStandsIn : ℕ → Option Word → Type 0
@@ -44,3 +45,7 @@ StandsIn line (statement.Model name below) = (name.line ≡ line) × WordStandsI
 -- the first word too, where there is a statement
 abbrev pub AllStandIn : ℕ → Option (Word × Statement) → Type 0
 AllStandIn line o = IfSome o (λ p. (p.0.line ≡ line) × StandsIn line p.1)
+
+-- what is wrong is told in that line
+abbrev pub ToldIn : {T : Type 0} → ℕ → Result T Complaint → Type 0
+ToldIn line r = IfErr r (λ c. c.line ≡ line)

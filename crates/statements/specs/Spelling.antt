@@ -1,5 +1,5 @@
 -- By which words each statement is spelt.
-use Rattle.std.specs.Prelude.{◌≡◌, ◌≢◌, ℕ, zero, suc, Bool, true, false, ◌⊎◌, if◌then◌else◌, List, [], ◌∷◌, take, codes, Option, Some, None, IsTrue, MatchBool, MatchOption}
+use Rattle.std.specs.Prelude.{◌≡◌, ◌≢◌, ⊤, ℕ, zero, suc, Bool, true, false, ◌⊎◌, if◌then◌else◌, List, [], ◌∷◌, take, codes, Option, Some, None, IsTrue, MatchBool, MatchOption}
 use Rattle.std.specs.Str.{bytes_eq}
 use Rattle.hir_def.specs.Editions.{edition_text}
 use Rattle.item_scope.specs.declared.index_data.CallStyles.{CallStyles}
@@ -85,18 +85,32 @@ AreStyles styles text =
     (styles ≡ with_style (with_style (with_style no_styles (word 0 text)) (word 1 text)) (word 2 text))
     × IsTrue (is_style (word 0 text)) × MayBeStyle (word 1 text) × MayBeStyle (word 2 text)
 
--- the first word of a definition by its kind, and what stands after its visibility; a variant is no definition that stands in a module
-abbrev pub IsKind : ItemKind → List ℕ → List ℕ → Type 0
-IsKind kind.Function verb text = verb ≡ codes "fn"
-IsKind kind.Const verb text = verb ≡ codes "const"
-IsKind kind.Static verb text = verb ≡ codes "static"
-IsKind (kind.Struct shape) verb text = (verb ≡ codes "struct") × (shape_of (word 0 text) ≡ Some shape)
-IsKind kind.Union verb text = verb ≡ codes "union"
-IsKind kind.Enum verb text = verb ≡ codes "enum"
-IsKind kind.Trait verb text = verb ≡ codes "trait"
-IsKind kind.TypeAlias verb text = verb ≡ codes "type"
-IsKind (kind.Macro styles) verb text = (verb ≡ codes "macro") × AreStyles styles text
-IsKind (kind.Variant shape) verb text = ⊥
+-- the first word of a definition, by its kind
+abbrev pub kind_word : ItemKind → List ℕ
+kind_word kind.Function = codes "fn"
+kind_word kind.Const = codes "const"
+kind_word kind.Static = codes "static"
+kind_word (kind.Struct shape) = codes "struct"
+kind_word kind.Union = codes "union"
+kind_word kind.Enum = codes "enum"
+kind_word kind.Trait = codes "trait"
+kind_word kind.TypeAlias = codes "type"
+kind_word (kind.Macro styles) = codes "macro"
+kind_word (kind.Variant shape) = codes "variant"
+
+-- what stands after its visibility: a struct's shape, a macro's styles, and nothing of the others; a variant is no definition that stands in a module
+abbrev pub IsRest : ItemKind → List ℕ → Type 0
+IsRest (kind.Struct shape) text = shape_of (word 0 text) ≡ Some shape
+IsRest (kind.Macro styles) text = AreStyles styles text
+IsRest (kind.Variant shape) text = ⊥
+IsRest k text = ⊤
+
+-- whether it ends with its visibility
+abbrev pub ends_with_site : ItemKind → Bool
+ends_with_site (kind.Struct shape) = false
+ends_with_site (kind.Macro styles) = false
+ends_with_site (kind.Variant shape) = false
+ends_with_site k = true
 
 abbrev pub after_kind : ItemKind → List ℕ → List ℕ
 after_kind (kind.Struct shape) text = after_word text
@@ -187,7 +201,8 @@ Spells verb text (statement.Module name vis) =
     (verb ≡ codes "module") × IsWord name (word 0 text) × MaySay vis (after_word text)
 Spells verb text (statement.Block name) = (verb ≡ codes "block") × IsWord name (word 0 text)
 Spells verb text (statement.Item site) = (verb ≡ codes "item") × IsSite site text
-Spells verb text (statement.Defined k site) = IsKind k verb (after_site site text) × IsSite site text
+Spells verb text (statement.Defined k site) =
+    (verb ≡ kind_word k) × IsSite site text × IsRest k (after_site site text)
 Spells verb text (statement.Variant name shape) =
     (verb ≡ codes "variant") × IsWord name (word 0 text) × (shape_of (word 1 text) ≡ Some shape)
 Spells verb text (statement.LegacyMacro name at meant) =

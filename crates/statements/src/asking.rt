@@ -3,7 +3,7 @@ ghost use Rattle.source_text.specs.Words.{first_word, after_word};
 ghost use Rattle.std.specs.Prelude.{◌≡◌, Option, IfOk, IfErr};
 ghost use Rattle.std.specs.Result.{result_ok};
 ghost use Rattle.statements.specs.Clauses.{asking_of, with_option};
-ghost use Rattle.statements.specs.Lines.{AskingStandsIn};
+ghost use Rattle.statements.specs.Lines.{AskingStandsIn, ToldIn};
 ghost use Rattle.statements.specs.Spelling.{MayBeOption, MayAsk, after_asking};
 ghost use Rattle.statements.specs.declared.asking.Asking.{Asking};
 
@@ -48,7 +48,8 @@ const OPTION: &str =
 
 // With the option that the word says.
 fn with_option<'a>(asking: Asking<'a>, word: Word<'a>) -> Result<Asking<'a>, Complaint>
-    ensures { result_ok result ≡ asking_of asking.entry word.entry.text.now }
+    ensures option { result_ok result ≡ asking_of asking.entry word.entry.text.now }
+    ensures told { ToldIn word.entry.line result }
 {
     if word.is("mode=import") {
         Ok(Asking {
@@ -94,6 +95,7 @@ fn with_next_option<'a>(
     ensures refused { IfErr result (λ _. ¬ (MayBeOption (first_word words.old.words.rest.now))) }
     ensures rest { words.new.words.rest.now ≡ after_word words.old.words.rest.now }
     ensures line { words.new.words.line ≡ words.old.words.line }
+    ensures told { ToldIn words.old.words.line result }
 {
     match words.next_word() {
         Some(word) => with_option(asking, word),
@@ -110,6 +112,7 @@ pub(crate) fn read_asking<'a>(
     ensures rest { IfOk result (λ a. words.new.words.rest.now ≡ after_asking a words.old.words.rest.now) }
     ensures lines { IfOk result (AskingStandsIn words.old.words.line) }
     ensures line { words.new.words.line ≡ words.old.words.line }
+    ensures told { ToldIn words.old.words.line result }
 {
     let Some(from) = words.next_word() else {
         return Ok(None);

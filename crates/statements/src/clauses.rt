@@ -4,7 +4,7 @@ ghost use Rattle.source_text.specs.Words.{first_word, after_word};
 ghost use Rattle.std.specs.Prelude.{◌≡◌, ◌≢◌, ◌++◌, ℕ, List, IfOk, IfErr, codes};
 ghost use Rattle.std.specs.Result.{result_ok};
 ghost use Rattle.statements.specs.Clauses.{styles_of, with_style, shape_of, Says};
-ghost use Rattle.statements.specs.Lines.{VisibilityStandsIn, SiteStandsIn};
+ghost use Rattle.statements.specs.Lines.{VisibilityStandsIn, SiteStandsIn, ToldIn};
 ghost use Rattle.statements.specs.Spelling.{after_module, after_visibility, MaySay, IsPlace, IsSite, after_site, MayBeStyle, AreStyles, after_words};
 ghost use Rattle.hir_def.specs.declared.edition.Edition.{Edition};
 ghost use Rattle.item_scope.specs.declared.index_data.CallStyles.{CallStyles};
@@ -53,6 +53,7 @@ pub(crate) const MODULE: &str = "the module that the item stands in";
 pub(crate) fn read_edition(word: Word) -> Result<Edition, Complaint>
     ensures edition { IfOk result (λ e. word.entry.text.now ≡ edition_text e) }
     ensures refused { IfErr result (λ _. (e : Edition) → word.entry.text.now ≢ edition_text e) }
+    ensures told { ToldIn word.entry.line result }
 {
     match text_or_nothing(word).parse::<Edition>() {
         Ok(edition) => Ok(edition),
@@ -65,6 +66,7 @@ fn closed<'a>(word: Word<'a>) -> Result<Word<'a>, Complaint>
     ensures module { IfOk result (λ w. word.entry.text.now ≡ w.text.now ++ codes ")") }
     ensures refused { IfErr result (λ _. (text : List ℕ) → word.entry.text.now ≢ text ++ codes ")") }
     ensures line { IfOk result (λ w. w.line ≡ word.entry.line) }
+    ensures told { ToldIn word.entry.line result }
 {
     match word.text {
         [text @ .., b')'] => Ok(Word {
@@ -90,6 +92,7 @@ pub(crate) fn visibility_of<'a>(
     ensures rest { IfOk result (λ vis. words.new.words.rest.now ≡ after_module vis words.old.words.rest.now) }
     ensures lines { IfOk result (VisibilityStandsIn words.old.words.line) }
     ensures line { words.new.words.line ≡ words.old.words.line }
+    ensures told { word.entry.line ≡ words.old.words.line → ToldIn words.old.words.line result }
 {
     if word.is("pub") {
         Ok(RawVisibility::Public)
@@ -114,6 +117,7 @@ pub(crate) fn read_optional<'a>(
     ensures rest { IfOk result (λ vis. words.new.words.rest.now ≡ after_visibility vis words.old.words.rest.now) }
     ensures lines { IfOk result (VisibilityStandsIn words.old.words.line) }
     ensures line { words.new.words.line ≡ words.old.words.line }
+    ensures told { ToldIn words.old.words.line result }
 {
     match words.next_word() {
         Some(word) => visibility_of(word, words),
@@ -133,6 +137,7 @@ pub(crate) fn site_of<'a>(
     ensures rest { IfOk result (λ s. words.new.words.rest.now ≡ after_visibility s.vis (after_words 2 words.old.words.rest.now)) }
     ensures lines { IfOk result (λ s. (s.«module».line ≡ words.old.words.line) × VisibilityStandsIn words.old.words.line s.vis) }
     ensures line { words.new.words.line ≡ words.old.words.line }
+    ensures told { ToldIn words.old.words.line result }
 {
     words.keyword("in", WITHIN)?;
     let module = words.expect(MODULE)?;
@@ -147,6 +152,7 @@ pub(crate) fn read_site<'a>(words: &mut StatementWords<'a>) -> Result<Site<'a>, 
     ensures rest { IfOk result (λ s. words.new.words.rest.now ≡ after_site s words.old.words.rest.now) }
     ensures lines { IfOk result (SiteStandsIn words.old.words.line) }
     ensures line { words.new.words.line ≡ words.old.words.line }
+    ensures told { ToldIn words.old.words.line result }
 {
     let name = words.expect("the item's name")?;
     let site = site_of(name, words)?;
@@ -157,6 +163,7 @@ pub(crate) fn read_shape(words: &mut StatementWords) -> Result<Shape, Complaint>
     ensures shape { result_ok result ≡ shape_of (first_word words.old.words.rest.now) }
     ensures rest { words.new.words.rest.now ≡ after_word words.old.words.rest.now }
     ensures line { words.new.words.line ≡ words.old.words.line }
+    ensures told { ToldIn words.old.words.line result }
 {
     let word = words.expect(SHAPE)?;
     if word.is("unit") {
@@ -173,7 +180,8 @@ pub(crate) fn read_shape(words: &mut StatementWords) -> Result<Shape, Complaint>
 // Adds a way in which a macro is called.
 #[tactic(auto, unfolding(crate::specs::Clauses::with_style))]
 fn with_style(styles: CallStyles, word: Word) -> Result<CallStyles, Complaint>
-    ensures { result_ok result ≡ styles_of styles word.entry.text.now }
+    ensures styles { result_ok result ≡ styles_of styles word.entry.text.now }
+    ensures told { ToldIn word.entry.line result }
 {
     if word.is("bang") {
         Ok(CallStyles {
@@ -202,6 +210,7 @@ fn with_next_style(styles: CallStyles, words: &mut StatementWords) -> Result<Cal
     ensures refused { IfErr result (λ _. ¬ (MayBeStyle (first_word words.old.words.rest.now))) }
     ensures rest { words.new.words.rest.now ≡ after_word words.old.words.rest.now }
     ensures line { words.new.words.line ≡ words.old.words.line }
+    ensures told { ToldIn words.old.words.line result }
 {
     match words.next_word() {
         Some(word) => with_style(styles, word),
@@ -216,6 +225,7 @@ pub(crate) fn read_styles(words: &mut StatementWords) -> Result<CallStyles, Comp
     ensures refused { IfErr result (λ _. (s : CallStyles) → ¬ (AreStyles s words.old.words.rest.now)) }
     ensures rest { IfOk result (λ _. words.new.words.rest.now ≡ after_words 3 words.old.words.rest.now) }
     ensures line { words.new.words.line ≡ words.old.words.line }
+    ensures told { ToldIn words.old.words.line result }
 {
     let none = CallStyles {
         fn_like: false,

@@ -2,6 +2,7 @@
 ghost use Rattle.std.specs.Prelude.{◌≡◌, ℕ, ◌<◌, ◌≤◌, ◌^◌, ◌++◌, ◌↔◌, ◌⊎◌, [], MatchResult, IfSome, IfNone, IfOk, IfErr, IsErr, codes, decimal};
 ghost use Rattle.std.specs.Str.{IsUtf8};
 ghost use Rattle.path_text.specs.Grammar.{IsName};
+ghost use Rattle.statements.specs.Lines.{ToldIn};
 ghost use Rattle.statements.specs.Names.{Parts, LastName};
 
 use bstr::ByteSlice;
@@ -17,6 +18,7 @@ const NAME: &str =
 pub fn name_of<'a>(word: Word<'a>) -> Result<&'a str, Complaint>
     ensures named { IfOk result (λ t. (t.now ≡ word.entry.text.now) × IsName word.entry.text.now) }
     ensures refused { IfErr result (λ _. ¬ (IsName word.entry.text.now × IsUtf8 word.entry.text.now)) }
+    ensures told { ToldIn word.entry.line result }
 {
     if !is_name(word.text) {
         return Err(Complaint::at(word, "this is no name", NAME));
@@ -26,7 +28,8 @@ pub fn name_of<'a>(word: Word<'a>) -> Result<&'a str, Complaint>
 
 /// The word as text.
 pub fn text_of<'a>(word: Word<'a>) -> Result<&'a str, Complaint>
-    ensures { MatchResult result (λ t. (t.now ≡ word.entry.text.now) × IsUtf8 word.entry.text.now) (λ _. ¬ (IsUtf8 word.entry.text.now)) }
+    ensures text { MatchResult result (λ t. (t.now ≡ word.entry.text.now) × IsUtf8 word.entry.text.now) (λ _. ¬ (IsUtf8 word.entry.text.now)) }
+    ensures told { ToldIn word.entry.line result }
 {
     match std::str::from_utf8(word.text) {
         Ok(text) => Ok(text),
@@ -45,6 +48,7 @@ pub(crate) fn text_or_nothing<'a>(word: Word<'a>) -> &'a str
 pub fn split<'a>(word: Word<'a>) -> Result<(Word<'a>, Word<'a>), Complaint>
     ensures parts { Parts word.entry.text.now result }
     ensures lines { IfOk result (λ p. (p.0.line ≡ word.entry.line) × (p.1.line ≡ word.entry.line)) }
+    ensures told { ToldIn word.entry.line result }
 {
     let Some((outer, name)) = word.text.rsplit_once_str(b"::") else {
         return Err(Complaint::at(
@@ -83,6 +87,7 @@ pub fn numbered(text: &[u8]) -> Option<u32>
 pub fn row_number(word: Word, count: usize) -> Result<u32, Complaint>
     ensures number { IfOk result (λ n. n ≡ count) }
     ensures refused { IsErr result ↔ (2 ^ 32 ≤ count) }
+    ensures told { ToldIn word.entry.line result }
 {
     match u32::try_from(count) {
         Ok(n) => Ok(n),

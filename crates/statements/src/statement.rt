@@ -1,10 +1,12 @@
 // One statement of a firmware file, as its words say it.
-ghost use Rattle.std.specs.Prelude.{◌≡◌, ◌≢◌, ℕ, List, Option, IfOk, IfErr, codes};
+ghost use Rattle.std.specs.Prelude.{◌≡◌, ◌≢◌, ℕ, List, Option, IsTrue, IfOk, IfErr, IfSome, IfNone, codes};
 ghost use Rattle.source_text.specs.Words.{after_word};
-ghost use Rattle.statements.specs.Lines.{WordStandsIn, SiteStandsIn, StandsIn, AllStandIn};
-ghost use Rattle.statements.specs.Spelling.{word, after_words, IsImportName, after_import_name, IsImport, after_import, MayGoOn, after_going_on, IsLegacy, IsMeaning, IsModel, Spells, after_statement, IsRead, IsReadable, stands_below_models};
+ghost use Rattle.statements.specs.Lines.{WordStandsIn, SiteStandsIn, StandsIn, AllStandIn, ToldIn};
+ghost use Rattle.statements.specs.Spelling.{word, after_words, kind_word, ends_with_site, import_word, IsImportName, after_import_name, IsImport, after_import, MayGoOn, after_going_on, IsLegacy, IsMeaning, IsModel, Spells, after_statement, IsRead, IsReadable, stands_below_models};
 ghost use Rattle.source_text.specs.declared.words.Word.{Word};
 ghost use Rattle.statements.specs.declared.clauses.Site.{Site};
+ghost use Rattle.statements.specs.declared.kinds.Bringing.{Bringing};
+ghost use Rattle.statements.specs.declared.kinds.ItemKind.{ItemKind};
 ghost use Rattle.statements.specs.declared.statement.Statement.{Statement};
 
 use crate::asking::{Asking, read_asking};
@@ -64,6 +66,7 @@ fn read_more<'a>(
     ensures rest { IfOk result (λ o. words.new.words.rest.now ≡ after_going_on o words.old.words.rest.now) }
     ensures lines { IfOk result (WordStandsIn words.old.words.line) }
     ensures line { words.new.words.line ≡ words.old.words.line }
+    ensures told { ToldIn words.old.words.line result }
 {
     let Some(word) = words.next_word() else {
         return Ok(None);
@@ -84,6 +87,7 @@ fn read_legacy<'a>(
     ensures rest { IfOk result (λ t. words.new.words.rest.now ≡ after_going_on t.2 (after_words 3 words.old.words.rest.now)) }
     ensures lines { IfOk result (λ t. (t.0.line ≡ words.old.words.line) × (t.1.line ≡ words.old.words.line) × WordStandsIn words.old.words.line t.2) }
     ensures line { words.new.words.line ≡ words.old.words.line }
+    ensures told { ToldIn words.old.words.line result }
 {
     let name = words.expect("the macro's name")?;
     words.keyword("in", WITHIN)?;
@@ -111,6 +115,7 @@ fn read_import_name<'a>(
     ensures rest { IfOk result (λ _. words.new.words.rest.now ≡ after_word (after_import_name words.old.words.rest.now)) }
     ensures lines { IfOk result (λ name. full.entry.line ≡ words.old.words.line → name.line ≡ words.old.words.line) }
     ensures line { words.new.words.line ≡ words.old.words.line }
+    ensures told { ToldIn words.old.words.line result }
 {
     let is_glob = matches!(bringing, Bringing::Glob);
     let expected = if is_glob { WITHIN } else { "`in` or `as`" };
@@ -136,6 +141,7 @@ fn read_use<'a>(
     ensures rest { IfOk result (λ t. words.new.words.rest.now ≡ after_import t.1 words.old.words.rest.now) }
     ensures lines { IfOk result (λ t. (t.0.line ≡ words.old.words.line) × SiteStandsIn words.old.words.line t.1) }
     ensures line { words.new.words.line ≡ words.old.words.line }
+    ensures told { ToldIn words.old.words.line result }
 {
     let full = words.expect("what is imported, by its full name")?;
     let name = read_import_name(bringing, full, words)?;
@@ -158,6 +164,7 @@ fn read_meaning<'a>(
     ensures rest { IfOk result (λ _. words.new.words.rest.now ≡ after_words 5 words.old.words.rest.now) }
     ensures lines { IfOk result (λ t. (t.0.line ≡ words.old.words.line) × (t.1.line ≡ words.old.words.line) × (t.2.line ≡ words.old.words.line)) }
     ensures line { words.new.words.line ≡ words.old.words.line }
+    ensures told { ToldIn words.old.words.line result }
 {
     let name = words.expect("a name")?;
     words.keyword("in", in_map)?;
@@ -174,6 +181,7 @@ fn read_model<'a>(words: &mut StatementWords<'a>) -> Result<(Word<'a>, Option<Wo
     ensures rest { IfOk result (λ t. words.new.words.rest.now ≡ after_going_on t.1 (after_word words.old.words.rest.now)) }
     ensures lines { IfOk result (λ t. (t.0.line ≡ words.old.words.line) × WordStandsIn words.old.words.line t.1) }
     ensures line { words.new.words.line ≡ words.old.words.line }
+    ensures told { ToldIn words.old.words.line result }
 {
     let name = words.expect("the model's name")?;
     let below = read_more(
@@ -185,12 +193,43 @@ fn read_model<'a>(words: &mut StatementWords<'a>) -> Result<(Word<'a>, Option<Wo
     Ok((name, below))
 }
 
+// The kind of a definition that ends with its visibility, by its first word.
+fn kind_of_word(word: &str) -> Option<ItemKind>
+    ensures kind { IfSome result (λ k. (word.now ≡ kind_word k) × IsTrue (ends_with_site k)) }
+    ensures none { IfNone result ((k : ItemKind) → IsTrue (ends_with_site k) → word.now ≢ kind_word k) }
+{
+    match word {
+        "fn" => Some(ItemKind::Function),
+        "const" => Some(ItemKind::Const),
+        "static" => Some(ItemKind::Static),
+        "union" => Some(ItemKind::Union),
+        "enum" => Some(ItemKind::Enum),
+        "trait" => Some(ItemKind::Trait),
+        "type" => Some(ItemKind::TypeAlias),
+        _ => None,
+    }
+}
+
+// How an import brings what it names, by its first word.
+fn bringing_of_word(word: &str) -> Option<Bringing>
+    ensures bringing { IfSome result (λ b. word.now ≡ import_word b) }
+    ensures none { IfNone result ((b : Bringing) → word.now ≢ import_word b) }
+{
+    match word {
+        "use" => Some(Bringing::Named),
+        "use-glob" => Some(Bringing::Glob),
+        "extern-crate" => Some(Bringing::ExternCrate),
+        _ => None,
+    }
+}
+
 impl<'a> Statement<'a> {
     /// The statement of a line, if it has one, and its first word.
     pub fn of(mut words: StatementWords<'a>) -> Result<Option<(Word<'a>, Statement<'a>)>, Complaint>
         ensures read { IfOk result (IsRead words.entry.words.rest.now) }
         ensures refused { IfErr result (λ _. ¬ (IsReadable words.entry.words.rest.now)) }
         ensures line { IfOk result (AllStandIn words.entry.words.line) }
+        ensures told { ToldIn words.entry.words.line result }
     {
         let Some(verb) = words.next_word() else {
             return Ok(None);
@@ -220,8 +259,17 @@ impl<'a> Statement<'a> {
         ensures rest { IfOk result (λ s. words.new.words.rest.now ≡ after_statement s words.old.words.rest.now) }
         ensures lines { IfOk result (StandsIn words.old.words.line) }
         ensures line { IfOk result (λ _. words.new.words.line ≡ words.old.words.line) }
+        ensures told { verb.entry.line ≡ words.old.words.line → ToldIn words.old.words.line result }
     {
-        match text_or_nothing(verb) {
+        let text = text_or_nothing(verb);
+        if let Some(kind) = kind_of_word(text) {
+            return Ok(Statement::Defined(kind, read_site(words)?));
+        }
+        if let Some(bringing) = bringing_of_word(text) {
+            let (full, site) = read_use(bringing, words)?;
+            return Ok(Statement::Use(bringing, full, site));
+        }
+        match text {
             "crate" => {
                 let name = words.expect("the crate's name")?;
                 Ok(Statement::Crate(name, read_edition(words.expect(EDITION)?)?))
@@ -232,13 +280,6 @@ impl<'a> Statement<'a> {
             }
             "block" => Ok(Statement::Block(words.expect("the block's full name")?)),
             "item" => Ok(Statement::Item(read_site(words)?)),
-            "fn" => Ok(Statement::Defined(ItemKind::Function, read_site(words)?)),
-            "const" => Ok(Statement::Defined(ItemKind::Const, read_site(words)?)),
-            "static" => Ok(Statement::Defined(ItemKind::Static, read_site(words)?)),
-            "union" => Ok(Statement::Defined(ItemKind::Union, read_site(words)?)),
-            "enum" => Ok(Statement::Defined(ItemKind::Enum, read_site(words)?)),
-            "trait" => Ok(Statement::Defined(ItemKind::Trait, read_site(words)?)),
-            "type" => Ok(Statement::Defined(ItemKind::TypeAlias, read_site(words)?)),
             "struct" => {
                 let site = read_site(words)?;
                 Ok(Statement::Defined(ItemKind::Struct(read_shape(words)?), site))
@@ -254,18 +295,6 @@ impl<'a> Statement<'a> {
             "legacy-macro" => {
                 let (name, module, meant) = read_legacy(words)?;
                 Ok(Statement::LegacyMacro(name, module, meant))
-            }
-            "use" => {
-                let (full, site) = read_use(Bringing::Named, words)?;
-                Ok(Statement::Use(Bringing::Named, full, site))
-            }
-            "use-glob" => {
-                let (full, site) = read_use(Bringing::Glob, words)?;
-                Ok(Statement::Use(Bringing::Glob, full, site))
-            }
-            "extern-crate" => {
-                let (full, site) = read_use(Bringing::ExternCrate, words)?;
-                Ok(Statement::Use(Bringing::ExternCrate, full, site))
             }
             "extern-prelude" => {
                 let (name, within, meant) = read_meaning(

@@ -2,6 +2,7 @@
 ghost use Rattle.source_text.specs.Words.{NextWord, first_word, after_word};
 ghost use Rattle.std.specs.Prelude.{◌≡◌, ◌≢◌, ◌⊎◌, IfOk, IfErr};
 ghost use Rattle.std.specs.Result.{result_ok};
+ghost use Rattle.statements.specs.Lines.{ToldIn};
 ghost use Rattle.statements.specs.Spelling.{BeforeComment, Ends};
 
 use bstr::ByteSlice;
@@ -42,6 +43,7 @@ impl<'a> StatementWords<'a> {
         ensures word { NextWord self.old.words.rest.now self.old.words.line self.old.words.column (result_ok result) }
         ensures rest { self.new.words.rest.now ≡ after_word self.old.words.rest.now }
         ensures line { self.new.words.line ≡ self.old.words.line }
+        ensures told { ToldIn self.old.words.line result }
     {
         let (line, column) = self.words.end();
         self.next_word().ok_or(Complaint {
@@ -59,6 +61,7 @@ impl<'a> StatementWords<'a> {
             ⊎ (first_word self.old.words.rest.now ≢ text.now)) }
         ensures rest { self.new.words.rest.now ≡ after_word self.old.words.rest.now }
         ensures line { self.new.words.line ≡ self.old.words.line }
+        ensures told { ToldIn self.old.words.line result }
     {
         let word = self.expect(expected)?;
         if word.is(text) {
@@ -72,6 +75,7 @@ impl<'a> StatementWords<'a> {
         ensures ends { IfOk result (λ _. Ends self.old.words.rest.now) }
         ensures refused { IfErr result (λ _. ¬ (Ends self.old.words.rest.now)) }
         ensures line { self.new.words.line ≡ self.old.words.line }
+        ensures told { ToldIn self.old.words.line result }
     {
         match self.next_word() {
             Some(word) => Err(Complaint::at(

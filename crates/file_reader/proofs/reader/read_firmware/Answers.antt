@@ -4,7 +4,9 @@ use Rattle.std.proofs.lemmas.Iterator.Consumers.{YieldsList-at, YieldsList-from_
 use Rattle.std.proofs.lemmas.Iterator.Splits.{YieldsList-from_slice_split}
 use Rattle.std.proofs.lemmas.List.{map-append}
 use Rattle.file_reader.specs.Reading.{ReadsLine, ReadsLines, Reads, RefusesFile, RefusesLine, lines_of}
+use Rattle.file_reader.specs.Refusals.{IsIn}
 use Rattle.file_reader.specs.Told.{told_by}
+use Rattle.troubles.specs.declared.trouble.Trouble.{Trouble}
 use Rattle.file_reader.proofs.Lines.{line_at, line_taken, reads_more}
 use Rattle.file_reader.proofs.Refused.{passed}
 use Rattle.file_reader.proofs.reader.read_firmware.Goals as goal
@@ -40,6 +42,20 @@ returns-in_err-take_line-clause-refused c =
     (YieldsList-from_slice_split _ (λ b. b == 10) text c.split.ensures.rest c.split.ensures.done c.split.ensures.closure (λ x b q k. search (rules, tests))))
     c.enumerate-i-items.ensures.count))
     c.loop-i.yielded _ c.loop-i.yielded_by _ _ taken c.in-Some.is c.next.ensures.steps in
-    let why : RefusesLine c.line_number.result c.in-Some.line.now (told_by c.loop-i.reader) → RefusesFile text =
-    λ r. (_, line_at taken, _, told_by c.in_ok-reader.reader, told_by c.loop-i.reader, lines, c.in_ok-reader.ensures, c.loop-i.invariant, subst (λ n. RefusesLine n c.in-Some.line.now (told_by c.loop-i.reader)) c.line_number.ensures r) in
-    passed c.take_line.result c.from_residual-in_err-take_line.result c.in_err-take_line.field-0.0 (search rules) (search rules) why c.take_line.ensures.refused
+    let told = told_by c.loop-i.reader in
+    let n = c.line_number.result in
+    let why : (t : Trouble) → RefusesLine n c.in-Some.line.now told → IsIn n t → RefusesFile text t =
+    λ t r i. (
+      _,
+      line_at taken,
+      _,
+      told_by c.in_ok-reader.reader,
+      told,
+      lines,
+      c.in_ok-reader.ensures,
+      c.loop-i.invariant,
+      subst (λ k. RefusesLine k c.in-Some.line.now told) c.line_number.ensures r,
+      subst (λ k. IsIn k t) c.line_number.ensures i,
+    ) in
+    passed (IsIn n) (RefusesFile text) c.take_line.result c.from_residual-in_err-take_line.result c.in_err-take_line.field-0.0
+    (search rules) (search rules) why c.take_line.ensures.refused c.take_line.ensures.line

@@ -2,6 +2,7 @@ use Rattle.std.proofs.Common.{rules, refl, None}
 use Rattle.file_reader.specs.Adding.{delivering, stated}
 use Rattle.file_reader.specs.Told.{told_by}
 use Rattle.firmware.specs.declared.definition.Standing.TheVariants.{Place}
+use Rattle.file_reader.proofs.Refused.{told_at}
 use Rattle.file_reader.proofs.Steps.{inner_told, still_listed}
 use Rattle.file_reader.proofs.reader.Reader.add_inner.Goals as goal
 
@@ -33,3 +34,8 @@ returns-clause-added c =
       search rules,
       all,
     )
+
+-- The visibility names no module, in the line of the statement.
+pub returns-in_err-vis-clause-line : goal.returns-in_err-vis-clause-line
+returns-in_err-vis-clause-line c h =
+    told_at c.from_residual-in_err-vis.result c.in_err-vis.field-0.0 c.args.word.line (search rules) (c.in_err-vis.ensures.line c.args.word.line h)

@@ -55,3 +55,9 @@ returns-clause-refused c =
     then_refused c.add.result
     (λ none. (code, c.of.ensures.code, inr (Some (c.in-Some.verb, s), subst (IsReadAt c.args.number code) c.in-Some.is (read_at c.of.result.words.line c.args.number c.of.result.words.rest.now c.in_ok-verb.field-0 c.of.ensures.line c.in_ok-verb.ensures.read c.in_ok-verb.ensures.line), (λ new a. none new a.1))))
     c.add.ensures.refused
+
+pub returns-clause-line : goal.returns-clause-line
+returns-clause-line c =
+    let code = c.of.result.words.rest.now in
+    let read = read_at c.of.result.words.line c.args.number code c.in_ok-verb.field-0 c.of.ensures.line c.in_ok-verb.ensures.read c.in_ok-verb.ensures.line in
+    c.add.ensures.line c.args.number (subst (IsReadAt c.args.number code) c.in-Some.is read).1.1
