@@ -19,7 +19,7 @@ use hir_def::fault::PathFault;
 use hir_def::{ModuleId, Name};
 use item_scope::index::Index;
 use nameres::block_exit;
-use path_text::mod_path::{ModPath, PathKind};
+use path_text::mod_path::{MOST_NAMES, MOST_SUPERS, ModPath, PathKind};
 
 impl Asked {
     // Asks one more module.
@@ -136,10 +136,10 @@ fn refusal<I: Index>(
     if question.original_module.0 >= index.modules() {
         return Some(PathFault::NoModule);
     }
-    if names.len() > 64 {
+    if names.len() > MOST_NAMES {
         return Some(PathFault::TooManyNames);
     }
-    if level(kind) > 255 {
+    if level(kind) > MOST_SUPERS {
         return Some(PathFault::TooManySupers);
     }
     if !is_known_crate(index, kind) {

@@ -1,11 +1,9 @@
 // The numbers of a path's first names, at most as many as a path may have.
 ghost use Rattle.std.specs.Prelude.{◌≡◌, ◌++◌, ◌∷◌, [], take};
 
+use crate::mod_path::MOST_NAMES;
 use hir_def::Name;
 use std::marker::Model;
-
-/// The most names that a path may have.
-pub(crate) const MOST_NAMES: usize = 64;
 
 /// Numbers in their order, of which the first 64 are kept. Contracts see them as a list.
 #[derive(Drop)]

@@ -1,6 +1,12 @@
 // A path by the numbers of its names, after ModPath.
 use hir_def::{CrateId, Name};
 
+/// The most names that a path may have.
+pub const MOST_NAMES: usize = 64;
+
+/// The most `super` that a path may begin with.
+pub const MOST_SUPERS: u32 = 255;
+
 /// How a path begins.
 #[derive(Clone, Copy, PartialEq, Eq, Debug)]
 pub enum PathKind {
@@ -14,7 +20,7 @@ pub enum PathKind {
     DollarCrate(CrateId),
 }
 
-/// A path: any number of names and any level; 64 names and level 255 are limits of the calls that take one.
+/// A path: any number of names and any level; `MOST_NAMES` and `MOST_SUPERS` are limits of the calls that take one.
 #[derive(Debug, Drop)]
 pub struct ModPath {
     pub kind: PathKind,

@@ -6,15 +6,13 @@ ghost use Rattle.path_text.specs.Laws.{IsRead, Denies, IsReadable};
 ghost use Rattle.path_text.specs.Left.{piece_of};
 ghost use Rattle.path_text.specs.Paths.{allowed, counts_of, kind_by, read_of};
 
-use crate::first_numbers::{FirstNumbers, MOST_NAMES};
+use crate::first_numbers::FirstNumbers;
 use crate::language::Before;
-use crate::mod_path::{ModPath, PathKind};
+use crate::mod_path::{MOST_NAMES, MOST_SUPERS, ModPath, PathKind};
 use crate::name_list::NameList;
 use crate::segment::{Segment, Segments, WordKind, word_kind};
 use hir_def::fault::{Failure, TextFault};
 use std::alloc::Global;
-
-const MOST_SUPERS: usize = 255;
 
 /// What the words so far tell of a path.
 #[derive(Drop)]
@@ -88,7 +86,7 @@ impl Gathered {
         if self.names > MOST_NAMES {
             return Err(TextFault::TooManyNames);
         }
-        if self.level > MOST_SUPERS {
+        if self.level > MOST_SUPERS as usize {
             return Err(TextFault::TooManySupers);
         }
         match self.unlisted {
