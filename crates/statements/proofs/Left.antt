@@ -45,14 +45,14 @@ abbrev left_site : List ℕ → List ℕ
 left_site text = left_visibility (after_words 3 text)
 
 left_of_site : (text : List ℕ) (s : Site) → IsSite s text → after_site s text ≡ left_site text
-left_of_site text s h = left_says (after_words 3 text) s.vis h.1.2
+left_of_site text s h = left_says (after_words 3 text) s.vis h.1.1.1
 
 abbrev left_import : List ℕ → List ℕ
 left_import text = left_visibility (after_words 2 (after_import_name (after_word text)))
 
 left_of_import : (b : Bringing) (full : Word) (s : Site) (text : List ℕ) → IsImport b full s text
     → after_import s text ≡ left_import text
-left_of_import b full s text h = left_says (after_words 2 (after_import_name (after_word text))) s.vis h.2.2
+left_of_import b full s text h = left_says (after_words 2 (after_import_name (after_word text))) s.vis h.2.1.1
 
 -- after a keyword with what it is the key to, or after the end
 abbrev left_after_key : List ℕ → List ℕ → List ℕ → List ℕ

@@ -5,19 +5,16 @@ use Rattle.source_text.specs.Words.{first_word, after_word}
 use Rattle.statements.specs.Clauses.{Says}
 use Rattle.statements.specs.Spelling.{word, MaySay}
 use Rattle.statements.specs.declared.clauses.RawVisibility.{RawVisibility}
-use Rattle.statements.specs.declared.clauses.RawVisibility.TheVariants as raw
 
 -- what holds whatever the error is
 pub on_err : {T E P : Type 0} (r : Result T E) → P → IfErr r (λ _. P)
 on_err (Ok x) p = tt
 on_err (Err e) p = p
 
--- where no word comes
-pub none_says : (w next : List ℕ) (vis : RawVisibility) → w ≡ [] → ¬ (Says w next vis)
-none_says w next raw.Public e h = cc
-none_says w next raw.Crate e h = cc
-none_says w next (raw.In m) e h = cc
-none_says w next raw.Private e h = cc
+-- what follows where a call refuses
+pub then_err : {T E P Q : Type 0} (r : Result T E) → (P → Q) → IfErr r (λ _. P) → IfErr r (λ _. Q)
+then_err (Ok x) f h = tt
+then_err (Err e) f h = f h
 
 -- a word, and what stands after it, that say no visibility
 module _ (text w rest : List ℕ) (first : w ≡ word 0 text) (after : rest ≡ after_word text) where

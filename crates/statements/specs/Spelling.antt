@@ -62,9 +62,13 @@ after_visibility vis text = after_module vis (after_word text)
 abbrev pub MaySay : RawVisibility → List ℕ → Type 0
 MaySay vis text = Says (word 0 text) (word 1 text) vis ⊎ (Ends text × (vis ≡ raw.Private))
 
+-- `MODULE VISIBILITY`
+abbrev pub IsWithin : Word → RawVisibility → List ℕ → Type 0
+IsWithin at vis text = IsWord at (word 0 text) × Says (word 1 text) (word 2 text) vis
+
 -- `in MODULE VISIBILITY`
 abbrev pub IsPlace : Word → RawVisibility → List ℕ → Type 0
-IsPlace at vis text = (word 0 text ≡ codes "in") × IsWord at (word 1 text) × Says (word 2 text) (word 3 text) vis
+IsPlace at vis text = (word 0 text ≡ codes "in") × IsWithin at vis (after_word text)
 
 -- `NAME in MODULE VISIBILITY`
 abbrev pub IsSite : Site → List ℕ → Type 0

@@ -5,7 +5,7 @@ ghost use Rattle.std.specs.Prelude.{◌≡◌, ◌≢◌, ◌++◌, ℕ, List, I
 ghost use Rattle.std.specs.Result.{result_ok};
 ghost use Rattle.statements.specs.Clauses.{styles_of, with_style, shape_of, Says};
 ghost use Rattle.statements.specs.Lines.{VisibilityStandsIn, SiteStandsIn, ToldIn};
-ghost use Rattle.statements.specs.Spelling.{after_module, after_visibility, MaySay, IsPlace, IsSite, after_site, MayBeStyle, AreStyles, after_words};
+ghost use Rattle.statements.specs.Spelling.{after_module, after_visibility, MaySay, IsWithin, IsSite, after_site, MayBeStyle, AreStyles, after_words};
 ghost use Rattle.hir_def.specs.declared.edition.Edition.{Edition};
 ghost use Rattle.item_scope.specs.declared.index_data.CallStyles.{CallStyles};
 ghost use Rattle.source_text.specs.declared.words.Word.{Word};
@@ -39,8 +39,7 @@ pub struct Site<'a> {
 
 pub(crate) const EDITION: &str = "an edition: 2015, 2018, 2021 or 2024";
 
-pub(crate) const VISIBILITY: &str =
-    "a visibility: `pub`, `pub(crate)`, `pub(in MODULE)` or `private`";
+const VISIBILITY: &str = "a visibility: `pub`, `pub(crate)`, `pub(in MODULE)` or `private`";
 
 const SHAPE: &str = "a shape: `unit`, `tuple` or `record`";
 
@@ -48,7 +47,7 @@ const STYLE: &str = "how the macro is called: `bang`, `attribute` or `derive`, o
 
 pub(crate) const WITHIN: &str = "`in` and the module that the item stands in";
 
-pub(crate) const MODULE: &str = "the module that the item stands in";
+pub(crate) const MODULE: &str = "the module that it stands in";
 
 pub(crate) fn read_edition(word: Word) -> Result<Edition, Complaint>
     ensures edition { IfOk result (λ e. word.entry.text.now ≡ edition_text e) }
@@ -82,7 +81,7 @@ fn closed<'a>(word: Word<'a>) -> Result<Word<'a>, Complaint>
     }
 }
 
-pub(crate) fn visibility_of<'a>(
+fn visibility_of<'a>(
     word: Word<'a>,
     words: &mut StatementWords<'a>,
 ) -> Result<RawVisibility<'a>, Complaint>
@@ -125,21 +124,20 @@ pub(crate) fn read_optional<'a>(
     }
 }
 
-// `in MODULE VISIBILITY`, after a name.
-pub(crate) fn site_of<'a>(
+// `MODULE VISIBILITY`, after a name and `in`.
+pub(crate) fn site_within<'a>(
     name: Word<'a>,
     words: &mut StatementWords<'a>,
 ) -> Result<Site<'a>, Complaint>
     ensures name { IfOk result (λ s. s.name ≡ name.entry) }
-    ensures place { IfOk result (λ s. IsPlace s.«module» s.vis words.old.words.rest.now) }
+    ensures within { IfOk result (λ s. IsWithin s.«module» s.vis words.old.words.rest.now) }
     ensures refused { IfErr result (λ _. (at : Word) (vis : RawVisibility) →
-        ¬ (IsPlace at vis words.old.words.rest.now)) }
-    ensures rest { IfOk result (λ s. words.new.words.rest.now ≡ after_visibility s.vis (after_words 2 words.old.words.rest.now)) }
+        ¬ (IsWithin at vis words.old.words.rest.now)) }
+    ensures rest { IfOk result (λ s. words.new.words.rest.now ≡ after_visibility s.vis (after_word words.old.words.rest.now)) }
     ensures lines { IfOk result (λ s. (s.«module».line ≡ words.old.words.line) × VisibilityStandsIn words.old.words.line s.vis) }
     ensures line { words.new.words.line ≡ words.old.words.line }
     ensures told { ToldIn words.old.words.line result }
 {
-    words.keyword("in", WITHIN)?;
     let module = words.expect(MODULE)?;
     let word = words.expect(VISIBILITY)?;
     let vis = visibility_of(word, words)?;
@@ -155,8 +153,8 @@ pub(crate) fn read_site<'a>(words: &mut StatementWords<'a>) -> Result<Site<'a>, 
     ensures told { ToldIn words.old.words.line result }
 {
     let name = words.expect("the item's name")?;
-    let site = site_of(name, words)?;
-    Ok(site)
+    words.keyword("in", WITHIN)?;
+    site_within(name, words)
 }
 
 pub(crate) fn read_shape(words: &mut StatementWords) -> Result<Shape, Complaint>

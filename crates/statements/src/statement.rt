@@ -11,8 +11,8 @@ ghost use Rattle.statements.specs.declared.statement.Statement.{Statement};
 
 use crate::asking::{Asking, read_asking};
 use crate::clauses::{
-    EDITION, MODULE, RawVisibility, Site, VISIBILITY, WITHIN, read_edition, read_optional,
-    read_shape, read_site, read_styles, visibility_of,
+    EDITION, MODULE, RawVisibility, Site, WITHIN, read_edition, read_optional, read_shape,
+    read_site, read_styles, site_within,
 };
 use crate::kinds::{Bringing, ItemKind, Shape};
 use crate::names::{last_name, text_or_nothing};
@@ -145,10 +145,7 @@ fn read_use<'a>(
 {
     let full = words.expect("what is imported, by its full name")?;
     let name = read_import_name(bringing, full, words)?;
-    let module = words.expect("the module that imports")?;
-    let word = words.expect(VISIBILITY)?;
-    let vis = visibility_of(word, words)?;
-    Ok((full, Site { name, module, vis }))
+    Ok((full, site_within(name, words)?))
 }
 
 // `NAME in MAP is MEANT`: a crate, or what else may stand there.

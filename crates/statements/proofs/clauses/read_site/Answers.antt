@@ -1,13 +1,12 @@
-use Rattle.std.proofs.Common.{sym, subst}
-use Rattle.statements.proofs.Refusals.{on_err}
+use Rattle.std.proofs.Common.{ap, sym, subst, ◌∙◌}
+use Rattle.source_text.specs.Words.{after_word}
+use Rattle.statements.proofs.Refusals.{then_err}
 use Rattle.statements.proofs.clauses.read_site.Goals as goal
-use Rattle.statements.specs.Spelling.{IsPlace, IsSite}
-use Rattle.statements.specs.declared.clauses.Site.{Site}
+use Rattle.statements.specs.Spelling.{IsWithin}
 
--- No place stands after the name.
-pub returns-in_err-site-clause-refused : goal.returns-in_err-site-clause-refused
-returns-in_err-site-clause-refused c =
-    let none : (s : Site) → ¬ (IsSite s c.args.words.now.words.rest.now) = λ s h.
-    let place = subst (IsPlace s.«module» s.vis) (sym c.expect.ensures.rest) h.1 in
-    c.in_err-site.ensures.refused s.«module» s.vis place in
-    on_err _ none
+-- No module and visibility stand after the name and `in`.
+pub returns-clause-refused : goal.returns-clause-refused
+returns-clause-refused c =
+    let two = c.keyword.ensures.rest ∙ ap after_word c.expect.ensures.rest in
+    then_err c.site_within.result (λ none s h. none s.«module» s.vis (subst (IsWithin s.«module» s.vis) (sym two) h.1.1))
+    c.site_within.ensures.refused
