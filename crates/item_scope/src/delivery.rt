@@ -2,7 +2,9 @@
 ghost use Rattle.std.specs.Prelude.{◌≡◌, Some, Option};
 ghost use Rattle.std.specs.Option.{option_map};
 ghost use Rattle.item_scope.specs.Deliveries.{under_import, brought, filled};
+ghost use Rattle.item_scope.specs.Globs.{by_glob, wide_glob};
 
+use crate::steps::ImportKind;
 use entries::per_ns::{Item, PerNs};
 use hir_def::import::{ImportOrExternCrate, import_or_glob};
 use hir_def::{ModuleId, Name};
@@ -28,6 +30,13 @@ fn under_import<Def: Copy, Import: Copy>(
 }
 
 impl Delivery {
+    /// Whether a glob import makes it.
+    pub fn is_by_glob(&self) -> bool
+        ensures { result ≡ by_glob wide_glob self.now.import }
+    {
+        self.import.is_some_and(|import| import.is_glob())
+    }
+
     /// How many namespaces it fills, from 0 to 3.
     pub fn filled(&self) -> usize
         ensures { result ≡ filled self.now }

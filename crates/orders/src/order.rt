@@ -2,8 +2,6 @@
 ghost use Rattle.std.specs.Prelude.{◌≡◌, ◌+◌, ◌≤◌, ◌++◌, IfOk, vec_len, vec_capacity, length};
 ghost use Rattle.orders.specs.Orders.{is_by_glob, of_kind, reordered, names_first, other_order, IsOneKind};
 
-use hir_def::import::ImportOrExternCrate;
-use item_scope::delivery::Delivery;
 use runs::calls::Call;
 use std::alloc::{AllocError, Global};
 
@@ -18,16 +16,10 @@ pub enum Order {
 fn is_by_glob(call: &Call<'_>) -> bool
     ensures { result ≡ is_by_glob call.now }
 {
-    matches!(
-        call,
-        Call::Deliver(
-            Delivery {
-                import: Some(ImportOrExternCrate::Glob(_)),
-                ..
-            },
-            _
-        )
-    )
+    match call {
+        Call::Deliver(delivery, _) => delivery.is_by_glob(),
+        Call::Ask(_, _, _) => false,
+    }
 }
 
 // Adds the calls that are by glob, or those that are not, to a list with room for as many calls.
