@@ -1,5 +1,5 @@
 -- What holds a place of which one row tells.
-use Rattle.std.proofs.Common.{◌≡◌, Bool, true, false, if◌then◌else◌, Some, None, Option, refl, sym}
+use Rattle.std.proofs.Common.{◌≡◌, true, false, if◌then◌else◌, Some, None, Option, refl, sym}
 use Rattle.std.specs.Option.{option_and_then}
 use Rattle.item_scope.specs.declared.place.Place.TheVariants.{Empty, ByGlob, ByName}
 use Rattle.item_scope.specs.Places.{holder, held}

@@ -1,5 +1,5 @@
 -- A first name's entries namespace by namespace: a source that has one namespace alone counts for nothing in the others.
-use Rattle.std.proofs.Common.{◌≡◌, Bool, true, false, if◌then◌else◌, List, [], ◌∷◌, is_some, Some, None, Option, refl}
+use Rattle.std.proofs.Common.{◌≡◌, Bool, true, false, if◌then◌else◌, [], ◌∷◌, is_some, Some, None, Option, refl}
 use Rattle.std.specs.Option.{option_or, option_map, option_map_or}
 use Rattle.hir_def.specs.declared.MacroId.{MacroId}
 use Rattle.hir_def.specs.declared.ModuleId.{ModuleId}
@@ -19,7 +19,7 @@ use Rattle.nameres.specs.Shapes.{Shape}
 use Rattle.path_resolution.specs.declared.question.BuiltinShadowMode.{BuiltinShadowMode}
 use Rattle.path_resolution.specs.declared.question.MacroSubNs.{MacroSubNs}
 use Rattle.path_resolution.specs.declared.question.Question.{Question}
-use Rattle.path_resolution.specs.Sources.{fitting, macro_fitting, from_legacy, from_builtin, from_extern_prelude, from_macro_use, from_prelude, from_preludes, first_filled, precedes, is_block_root, skipped_in_block_roots, type_in_module, macro_in_module, from_module, from_crate_root}
+use Rattle.path_resolution.specs.Sources.{fitting, from_legacy, from_builtin, from_extern_prelude, from_macro_use, from_prelude, from_preludes, first_filled, precedes, is_block_root, skipped_in_block_roots, type_in_module, macro_in_module, from_module, from_crate_root}
 use Rattle.path_resolution.specs.Starts.{map_of}
 
 abbrev only_types : PerNs → PerNs
