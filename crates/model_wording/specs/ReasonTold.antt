@@ -1,6 +1,5 @@
 -- What is written of why an item is kept.
 use Rattle.std.specs.Prelude.{ℕ, List, [], ◌++◌, Option, Some, None, codes, option_map}
-use Rattle.std.specs.Option.{option_and_then}
 use Rattle.std.specs.Borrow.{Bor}
 use Rattle.hir_def.specs.declared.ModuleDefId.{ModuleDefId}
 use Rattle.hir_def.specs.declared.ModuleDefId.TheVariants as def

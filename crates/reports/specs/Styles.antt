@@ -1,6 +1,6 @@
 -- How many modules that see an item are named.
 use Rattle.std.specs.Prelude.{ℕ, ◌-◌, ◌^◌, if◌then◌else◌}
-use Rattle.reports.specs.declared.TheConstants.{FEW}
+use Rattle.reports.specs.declared.style.TheConstants.{FEW}
 use Rattle.reports.specs.declared.style.Form.{Form}
 use Rattle.reports.specs.declared.style.Form.TheVariants.{Text, Lines, Json}
 use Rattle.reports.specs.declared.style.Style.{Style}
