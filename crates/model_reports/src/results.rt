@@ -7,7 +7,7 @@ ghost use Rattle.orders.specs.Orders.{other_order};
 ghost use Rattle.variants.specs.Variants.{left_in, view_in};
 ghost use Rattle.model_runs.specs.Calls.{calls_in};
 ghost use Rattle.model_runs.specs.Made.{RanOver, Compares};
-ghost use Rattle.model_wording.specs.Comparing.{comparison_of};
+ghost use Rattle.model_wording.specs.Comparing.{HasStatement, comparison_of};
 ghost use Rattle.model_wording.specs.Models.{told_of, account_of};
 ghost use Rattle.model_reports.specs.Results.{own_deliveries, pile_items, pile_asks, AreAnswered};
 
@@ -88,6 +88,7 @@ impl<'b, 's, 'a, I: Index> Results<'b, 's, 'a, I> {
             (vec_items r.made.outcomes) r.made.order r.made.agreement) }
         ensures comparison { IfOk result (λ r. r.comparison
             ≡ comparison_of (own_deliveries survey.entry.now.firmware.now model.now) r.made.order r.made.agreement) }
+        ensures stands { IfOk result (λ r. HasStatement r.comparison) }
         // It answers all paths of the pile.
         ensures answers { IfOk result (λ r. AreAnswered (view_in r.made.index) (pile_asks survey.entry.now model.now) (vec_items r.answers)) }
         ensures items { IfOk result (λ r. vec_items r.items ≡ pile_items survey.entry.now.firmware.now model.now) }

@@ -1,7 +1,8 @@
 -- A model is what its deliveries make of the index below: the further delivery is refused, and so changes nothing.
-use Rattle.std.proofs.Common.{◌≡◌, ℕ, ◌+◌, ◌≤◌, arith, Bool, true, false, if◌then◌else◌, nat_lt, List, [], ◌∷◌, ◌++◌, Option, Some, None, Result, is_ok, refl, ap, ◌∙◌, sym, subst, inl, inr, rules, map}
+use Rattle.std.proofs.Common.{◌≡◌, ℕ, ◌+◌, ◌≤◌, arith, Bool, true, false, if◌then◌else◌, nat_lt, List, [], ◌∷◌, ◌++◌, length, Option, Some, None, Result, is_ok, refl, ap, ◌∙◌, sym, subst, inl, inr, rules, map}
 use Rattle.std.specs.Option.{option_or}
 use Rattle.std.proofs.lemmas.Bool.{cases_Bool}
+use Rattle.std.proofs.lemmas.List.{length-map}
 use Rattle.hir_def.specs.declared.fault.IndexFault.{IndexFault}
 use Rattle.hir_def.specs.declared.fault.IndexFault.TheVariants.{NoModule, NoName, NothingFilled}
 use Rattle.hir_def.specs.declared.fault.PathFault.{PathFault}
@@ -18,7 +19,8 @@ use Rattle.orders.specs.Orders.{calls_of, reordered}
 use Rattle.orders.specs.declared.order.Order.{Order}
 use Rattle.orders.proofs.Reordered.{reordered-unmade}
 use Rattle.model_runs.specs.Calls.{made_call, outcomes_of}
-use Rattle.model_runs.specs.Made.{own_places, RanOver, Compares, TellTheSame}
+use Rattle.model_runs.specs.Made.{own_places, RanOver, Compares, TellTheSame, NamesBelow}
+use Rattle.model_runs.proofs.Positions.{names_below, reordered-length}
 use Rattle.path_resolution.specs.declared.answer.ResolvePathResult.{ResolvePathResult as Answer}
 use Rattle.path_resolution.specs.declared.question.Question.{Question}
 use Rattle.path_resolution.specs.Questions.{answered}
@@ -132,6 +134,14 @@ module _ (u : View) (ss : List DeliveryStatement) (ds : List Delivery) (e : ds �
 
   pub runs_over : (os : List Outcome) → os ≡ outcomes_of ss cs → RanOver u ss os x k
   runs_over os h = subst (λ (t : List Outcome). RanOver u ss t x k) (sym h) (by_statements ss cs made-calls ran)
+
+  as_many : length cs ≡ length ss
+  as_many =
+      sym (length-map cs unmade) ∙ ap (λ (t : List Call). length t) made-calls ∙ length-map (map (λ s. s.delivery) ss) (λ (d : Delivery). Deliver d None) ∙ length-map ss (λ (s : DeliveryStatement). s.delivery)
+
+  pub names_one : (others : List Call) (order : Order) (a : Agreement) → a ≡ agreement_of (reordered order cs) others → NamesBelow (length ss) a
+  names_one others order a h =
+      subst (λ (k : ℕ). NamesBelow k a) (reordered-length order cs ∙ as_many) (subst (NamesBelow (length (reordered order cs))) (sym h) (names_below (reordered order cs) others))
 
   pub compares : (w y : View) (m j : ℕ) (others : List Call) (order : Order) (a : Agreement) (p : Answers) → w ≡ u → m ≡ own_places → Tried (state w m) (reordered order (calls_of ds)) others q path d p (state y j)
     → a ≡ agreement_of (reordered order cs) others → AgreementLaw v w a cs others o.before p.before → (os : List Outcome) → os ≡ outcomes_of ss cs → Compares u x os order a

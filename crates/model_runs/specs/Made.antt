@@ -1,10 +1,11 @@
 -- What the deliveries of a model make of the index below, in two orders.
-use Rattle.std.specs.Prelude.{◌≡◌, ℕ, List, map}
+use Rattle.std.specs.Prelude.{◌≡◌, ◌<◌, ℕ, List, map, IfSome}
 use Rattle.item_scope.specs.Views.{View}
 use Rattle.firmware.specs.declared.deliveries.Outcome.{Outcome}
 use Rattle.firmware.specs.declared.file.DeliveryStatement.{DeliveryStatement}
 use Rattle.firmware.specs.Deliveries.{Ran}
 use Rattle.orders.specs.declared.agreement.Agreement.{Agreement}
+use Rattle.orders.specs.declared.agreement.Agreement.TheVariants.{Agree, Parted}
 use Rattle.orders.specs.declared.order.Order.{Order}
 use Rattle.orders.specs.Agreements.{Agrees, agreement_of}
 use Rattle.orders.specs.Orders.{reordered}
@@ -44,3 +45,8 @@ pub record Compares (below made : View) (os : List Outcome) (order : Order) (a :
   pub ran : runs.Ran (state below own_places) other (state view left)
   pub agreement : a ≡ agreement_of (reordered order (map made_call os)) other
   pub agree : Agrees a → TellTheSame made view
+
+-- a position that it names is below the number
+abbrev pub NamesBelow : ℕ → Agreement → Type 0
+NamesBelow n (Agree d) = IfSome d (λ i. i < n)
+NamesBelow n (Parted i) = i < n

@@ -1,5 +1,5 @@
 // A model's deliveries, made in two orders to two variants over one index.
-ghost use Rattle.std.specs.Prelude.{◌≡◌, IfOk, vec_items, map, true};
+ghost use Rattle.std.specs.Prelude.{◌≡◌, IfOk, vec_items, map, length, true};
 ghost use Rattle.std.specs.List.{slice_get};
 ghost use Rattle.entries.specs.Entries.{is_nothing};
 ghost use Rattle.orders.specs.Orders.{other_order};
@@ -7,7 +7,7 @@ ghost use Rattle.variants.specs.Variants.{left_in, view_in};
 ghost use Rattle.firmware.specs.declared.pile.Part.TheVariants.{Model};
 ghost use Rattle.model_runs.specs.Calls.{calls_in, result_of, result_at, outcomes_of};
 ghost use Rattle.model_runs.specs.Parts.{deliveries_in};
-ghost use Rattle.model_runs.specs.Made.{IsMadeBy, RanOver, Compares};
+ghost use Rattle.model_runs.specs.Made.{IsMadeBy, RanOver, Compares, NamesBelow};
 
 use entries::per_ns::PerNs;
 use firmware::deliveries::{Outcome, deliver_all};
@@ -142,6 +142,7 @@ pub fn make_model<'a, 's, I: Index>(
     ensures order { IfOk result (λ m. m.order ≡ other_order (calls_in statements.now)) }
     // Whether the other order comes to the same; where it does, every question has one answer in both.
     ensures compared { IfOk result (λ m. Compares (I.view below.entry.now) (view_in m.index) (vec_items m.outcomes) m.order m.agreement) }
+    ensures within { IfOk result (λ m. NamesBelow (length statements.now) m.agreement) }
 {
     let deliveries = deliveries_of(alloc, statements)?;
     let mut first = Variant::new(below);

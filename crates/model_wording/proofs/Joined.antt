@@ -1,10 +1,11 @@
 -- Statements in another order: their calls are the reordered calls, so that a position means the statement that stands there.
-use Rattle.std.proofs.Common.{◌≡◌, ℕ, Bool, true, false, cond, not, List, [], ◌∷◌, ◌++◌, Option, Some, None, map, refl, ap, ◌∙◌, sym, subst}
-use Rattle.std.specs.Prelude.{filter, ◌↔◌, if◌then◌else◌}
+use Rattle.std.proofs.Common.{◌≡◌, ◌<◌, ◌≤◌, ℕ, Bool, true, false, cond, not, List, [], ◌∷◌, ◌++◌, length, Option, Some, None, map, refl, ap, ◌∙◌, sym, subst, inl, inr, arith}
+use Rattle.std.specs.Prelude.{filter, IsSome, ◌↔◌, if◌then◌else◌}
 use Rattle.std.specs.List.{slice_get}
 use Rattle.std.specs.Option.{option_map, option_and_then}
-use Rattle.std.proofs.lemmas.List.{map-append}
-use Rattle.std.proofs.lemmas.Option.{slice_get-map}
+use Rattle.std.proofs.lemmas.List.{map-append, length-append}
+use Rattle.std.proofs.lemmas.List.Filters.{length-filter_both}
+use Rattle.std.proofs.lemmas.Option.{slice_get-map, slice_get_cases}
 use Rattle.firmware.specs.declared.file.DeliveryStatement.{DeliveryStatement}
 use Rattle.item_scope.specs.declared.delivery.Delivery.{Delivery}
 use Rattle.orders.specs.declared.agreement.Agreement.{Agreement}
@@ -16,7 +17,7 @@ use Rattle.runs.specs.declared.calls.Call.{Call}
 use Rattle.runs.specs.declared.calls.Call.TheVariants.{Deliver}
 use Rattle.model_wording.specs.declared.comparison.Comparison.{Comparison}
 use Rattle.model_wording.specs.declared.comparison.Comparison.TheVariants.{Alone, Agree, Parted}
-use Rattle.model_wording.specs.Comparing.{is_by_glob, is_by_name, joined, calls_in, call_of, comparison_of, position_of, IsParted, TellsParted, TellsCallAt}
+use Rattle.model_wording.specs.Comparing.{is_by_glob, is_by_name, joined, calls_in, call_of, comparison_of, position_of, IsParted, PartedBelow, TellsParted, HasStatement, TellsCallAt}
 
 globs-calls : (ss : List DeliveryStatement) → calls_in (filter is_by_glob ss) ≡ by_globs (calls_in ss)
 globs-calls [] = refl
@@ -84,3 +85,30 @@ parts ss o (agreement.Parted i) = (λ x. tt, λ x. tt)
 -- a parting is told, and nothing else is told as one
 pub parted : (ss : List DeliveryStatement) (o : Order) (a : Agreement) (c : Comparison) → c ≡ comparison_of ss o a → TellsParted c ↔ IsParted a
 parted ss o a c e = subst (λ (x : Comparison). TellsParted x ↔ IsParted a) (sym e) (parts ss o a)
+
+twice : (b : Bool) → b ≡ not (not b)
+twice true = refl
+twice false = refl
+
+either : (o : Order) (d : Option DeliveryStatement) (b : Bool) → HasStatement (if b then Alone else Agree o d)
+either o d true = tt
+either o d false = tt
+
+joined-length : (o : Order) (ss : List DeliveryStatement) → length (joined o (filter is_by_glob ss) (filter is_by_name ss)) ≡ length ss
+joined-length NamesFirst ss = length-append (filter is_by_name ss) (filter is_by_glob ss) ∙ length-filter_both is_by_name is_by_glob (λ s. twice (is_by_glob s)) ss
+joined-length GlobsFirst ss = length-append (filter is_by_glob ss) (filter is_by_name ss) ∙ length-filter_both is_by_glob is_by_name (λ s. refl) ss
+
+some-at : (ss : List DeliveryStatement) (i : ℕ) → i < length ss → IsSome (slice_get ss i)
+some-at ss i h =
+    elim ((slice_get_cases ss i).1) [
+      | inl g ↦ subst IsSome (sym g.2) refl
+      | inr g ↦ let k : length ss ≤ i = g.0 in let n : ⊥ = omega arith in absurd n
+    ]
+
+has : (ss : List DeliveryStatement) (o : Order) (a : Agreement) → PartedBelow (length ss) a → HasStatement (comparison_of ss o a)
+has ss o (agreement.Agree d) h = either o _ _
+has ss o (agreement.Parted i) h = some-at (joined o (filter is_by_glob ss) (filter is_by_name ss)) i (subst (λ (n : ℕ). i < n) (sym (joined-length o ss)) h)
+
+-- where it parted at one of the statements, that is told
+pub has_statement : (ss : List DeliveryStatement) (o : Order) (a : Agreement) (c : Comparison) → c ≡ comparison_of ss o a → PartedBelow (length ss) a → HasStatement c
+has_statement ss o a c e h = subst HasStatement (sym e) (has ss o a h)

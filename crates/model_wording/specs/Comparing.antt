@@ -1,5 +1,5 @@
 -- What the agreement of two orders says of the statements.
-use Rattle.std.specs.Prelude.{◌≡◌, ⊤, ℕ, Bool, not, ◌==◌, ◌||◌, if◌then◌else◌, List, ◌++◌, length, filter, map, Option, Some, None}
+use Rattle.std.specs.Prelude.{◌≡◌, ◌<◌, ⊤, ℕ, Bool, not, ◌==◌, ◌||◌, if◌then◌else◌, List, ◌++◌, length, filter, map, Option, Some, None, IsSome}
 use Rattle.std.specs.List.{slice_get}
 use Rattle.std.specs.Option.{option_map, option_and_then}
 use Rattle.item_scope.specs.Globs.{wide_glob, by_glob}
@@ -44,6 +44,16 @@ abbrev pub TellsParted : Comparison → Type 0
 TellsParted Alone = ⊥
 TellsParted (Agree o d) = ⊥
 TellsParted (Parted o s) = ⊤
+
+abbrev pub HasStatement : Comparison → Type 0
+HasStatement Alone = ⊤
+HasStatement (Agree o d) = ⊤
+HasStatement (Parted o s) = IsSome s
+
+-- it parted, if it did, at one of so many
+abbrev pub PartedBelow : ℕ → Agreement → Type 0
+PartedBelow n (agreement.Agree d) = ⊤
+PartedBelow n (agreement.Parted i) = i < n
 
 -- the position that an agreement names
 abbrev pub position_of : Agreement → Option ℕ

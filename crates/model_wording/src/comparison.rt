@@ -1,9 +1,9 @@
 // Whether two orders of a model's deliveries come to the same, told by the statements of the file.
-ghost use Rattle.std.specs.Prelude.{◌≡◌, ◌↔◌, IfOk, vec_items, filter};
+ghost use Rattle.std.specs.Prelude.{◌≡◌, ◌↔◌, IfOk, vec_items, filter, length};
 ghost use Rattle.std.specs.List.{slice_get};
 ghost use Rattle.std.specs.Option.{option_and_then};
 ghost use Rattle.orders.specs.Orders.{reordered};
-ghost use Rattle.model_wording.specs.Comparing.{is_by_glob, is_by_name, joined, calls_in, compared, comparison_of, position_of, IsParted, TellsParted, TellsCallAt};
+ghost use Rattle.model_wording.specs.Comparing.{is_by_glob, is_by_name, joined, calls_in, compared, comparison_of, position_of, IsParted, PartedBelow, TellsParted, HasStatement, TellsCallAt};
 
 use firmware::file::DeliveryStatement;
 use hir_def::import::ImportOrExternCrate;
@@ -124,6 +124,7 @@ impl<'a> Comparison<'a> {
     ) -> Result<Comparison<'a>, AllocError>
         ensures value { IfOk result (λ c. c ≡ comparison_of statements.now order agreement) }
         ensures parted { IfOk result (λ c. TellsParted c ↔ IsParted agreement) }
+        ensures stands { PartedBelow (length statements.now) agreement → IfOk result HasStatement }
         // The statement that is told is the one whose call stands at the agreement's position in the other order.
         ensures position { IfOk result (TellsCallAt (reordered order (calls_in statements.now)) (position_of agreement)) }
     {

@@ -3,7 +3,7 @@ use Rattle.firmware.specs.declared.file.DeliveryStatement.{DeliveryStatement}
 use Rattle.item_scope.specs.declared.delivery.Delivery.{Delivery}
 use Rattle.runs.specs.declared.calls.Call.{Call}
 use Rattle.model_runs.specs.Calls.{outcomes_of}
-use Rattle.model_runs.proofs.Modelling.{runs_over, compares}
+use Rattle.model_runs.proofs.Modelling.{runs_over, compares, names_one}
 use Rattle.model_runs.proofs.model_run.make_model.Goals as goal
 
 pub returns-clause-run : goal.returns-clause-run
@@ -25,3 +25,11 @@ returns-clause-compared g c =
     let o = c.in_ok-orders.ensures in
     compares _ ss _ e _ _ _ c.nothing.ensures _ _ _ _ _ _ c.new-first.ensures.view c.new-first.ensures.left o.first
         _ _ _ _ _ _ _ _ c.new-second.ensures.view c.new-second.ensures.left o.second o.agreement o.agree _ h
+
+pub returns-clause-within : goal.returns-clause-within
+returns-clause-within g c =
+    let p = c.as_slice.ensures.value in
+    let q = c.in_ok-deliveries.ensures in
+    let ss = c.args.statements.now in
+    let e : c.as_slice.result.now ≡ map {A = DeliveryStatement} {B = Delivery} (λ s. s.delivery) ss = cc in
+    names_one _ ss _ e _ _ _ c.nothing.ensures _ _ _ _ _ _ c.new-first.ensures.view c.new-first.ensures.left c.in_ok-orders.ensures.first _ _ _ c.in_ok-orders.ensures.agreement
