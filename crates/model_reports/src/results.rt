@@ -104,7 +104,15 @@ impl<'b, 's, 'a, I: Index> Results<'b, 's, 'a, I> {
         let made = make_model(alloc, below, statements)?;
         let comparison = Comparison::of(alloc, statements, made.order, made.agreement)?;
         let index = &made.index;
-        let answers = answer_all(alloc, progress, path, model.name, index, asks.as_slice(), style)?;
+        let answers = answer_all(
+            alloc,
+            progress,
+            path,
+            model.name,
+            index,
+            asks.as_slice(),
+            style,
+        )?;
         let reached = Reached::of(alloc, &survey.firmware.definitions, answers.as_slice())?;
         let account = ModelAccount::of(
             model.name,

@@ -124,8 +124,7 @@ same x y v w r s e h a =
 
 -- Statements' deliveries were made to a variant over u, with such a delivery after them, and in another order to another variant.
 module _ (u : View) (ss : List DeliveryStatement) (ds : List Delivery) (e : ds ≡ map (λ x. x.delivery) ss) (q : Question) (path : ModPath) (d : Delivery) (n : is_nothing d.entries ≡ true)
-  (v x : View) (l k : ℕ) (cs : List Call) (o : Answers) (ev : v ≡ u) (el : l ≡ own_places) (first : Tried (state v l) (calls_of ds) cs q path d o (state x k)) where
-
+    (v x : View) (l k : ℕ) (cs : List Call) (o : Answers) (ev : v ≡ u) (el : l ≡ own_places) (first : Tried (state v l) (calls_of ds) cs q path d o (state x k)) where
   made-calls : map unmade cs ≡ calls_of (map (λ s. s.delivery) ss)
   made-calls = first.calls ∙ given-unmade ds ∙ ap calls_of e
 
@@ -144,7 +143,7 @@ module _ (u : View) (ss : List DeliveryStatement) (ds : List Delivery) (e : ds �
       subst (λ (k : ℕ). NamesBelow k a) (reordered-length order cs ∙ as_many) (subst (NamesBelow (length (reordered order cs))) (sym h) (names_below (reordered order cs) others))
 
   pub compares : (w y : View) (m j : ℕ) (others : List Call) (order : Order) (a : Agreement) (p : Answers) → w ≡ u → m ≡ own_places → Tried (state w m) (reordered order (calls_of ds)) others q path d p (state y j)
-    → a ≡ agreement_of (reordered order cs) others → AgreementLaw v w a cs others o.before p.before → (os : List Outcome) → os ≡ outcomes_of ss cs → Compares u x os order a
+      → a ≡ agreement_of (reordered order cs) others → AgreementLaw v w a cs others o.before p.before → (os : List Outcome) → os ≡ outcomes_of ss cs → Compares u x os order a
   compares w y m j others order a p ew em second h law os f =
       let again : map made_call os ≡ cs = ap (map made_call) f ∙ calls_again ss cs made-calls ran in
       let other : Ran (state u own_places) others (state y j) = over u w y m j (reordered order (calls_of ds)) others q path d p ew em n second in

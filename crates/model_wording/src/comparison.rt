@@ -110,7 +110,10 @@ impl<'a> Comparison<'a> {
                     Comparison::Agree(order, at(statements, differed))
                 }
             }
-            Agreement::Parted(position) => Comparison::Parted(order, at(statements, Some(position))),
+            Agreement::Parted(position) => {
+                let parted = at(statements, Some(position));
+                Comparison::Parted(order, parted)
+            }
         }
     }
 

@@ -24,7 +24,7 @@ returns-clause-compared g c =
     let h = c.in_ok-outcomes.ensures ∙ ap (λ (cs : List Call). outcomes_of ss cs) c.as_slice-2.ensures.value in
     let o = c.in_ok-orders.ensures in
     compares _ ss _ e _ _ _ c.nothing.ensures _ _ _ _ _ _ c.new-first.ensures.view c.new-first.ensures.left o.first
-        _ _ _ _ _ _ _ _ c.new-second.ensures.view c.new-second.ensures.left o.second o.agreement o.agree _ h
+    _ _ _ _ _ _ _ _ c.new-second.ensures.view c.new-second.ensures.left o.second o.agreement o.agree _ h
 
 pub returns-clause-within : goal.returns-clause-within
 returns-clause-within g c =
