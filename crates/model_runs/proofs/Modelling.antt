@@ -14,7 +14,7 @@ use Rattle.item_scope.specs.Views.{View}
 use Rattle.firmware.specs.declared.deliveries.Outcome.{Outcome}
 use Rattle.firmware.specs.declared.file.DeliveryStatement.{DeliveryStatement}
 use Rattle.orders.specs.declared.agreement.Agreement.{Agreement}
-use Rattle.orders.specs.Agreements.{Agrees, AgreementLaw, agreement_of}
+use Rattle.orders.specs.Agreements.{AgreementLaw, agreement_of}
 use Rattle.orders.specs.Orders.{calls_of, reordered}
 use Rattle.orders.specs.declared.order.Order.{Order}
 use Rattle.orders.proofs.Reordered.{reordered-unmade}

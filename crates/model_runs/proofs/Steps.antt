@@ -1,5 +1,5 @@
 -- One more item of a list was read.
-use Rattle.std.proofs.Common.{◌≡◌, ℕ, ◌+◌, ◌<◌, List, [], ◌∷◌, ◌++◌, length, get_or, Bool, Option, Some, None, Result, take, map, refl, arith, ap, ◌∙◌, sym}
+use Rattle.std.proofs.Common.{◌≡◌, ℕ, ◌+◌, ◌<◌, List, [], ◌∷◌, ◌++◌, length, get_or, Bool, Option, Result, take, map, refl, arith, ap, ◌∙◌, sym}
 use Rattle.std.specs.List.{slice_get}
 use Rattle.std.proofs.lemmas.List.{take_more, map-append, length-take-le, append_assoc, append-nil}
 use Rattle.hir_def.specs.declared.fault.IndexFault.{IndexFault}

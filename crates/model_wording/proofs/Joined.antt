@@ -3,7 +3,7 @@ use Rattle.std.proofs.Common.{◌≡◌, ◌<◌, ◌≤◌, ℕ, Bool, true, fa
 use Rattle.std.specs.Prelude.{filter, IsSome, ◌↔◌, if◌then◌else◌}
 use Rattle.std.specs.List.{slice_get}
 use Rattle.std.specs.Option.{option_map, option_and_then}
-use Rattle.std.proofs.lemmas.List.{map-append, length-append}
+use Rattle.std.proofs.lemmas.List.{length-append}
 use Rattle.std.proofs.lemmas.List.Filters.{length-filter_both}
 use Rattle.std.proofs.lemmas.Option.{slice_get-map, slice_get_cases}
 use Rattle.firmware.specs.declared.file.DeliveryStatement.{DeliveryStatement}
@@ -16,7 +16,7 @@ use Rattle.orders.specs.Orders.{by_globs, by_names, reordered}
 use Rattle.runs.specs.declared.calls.Call.{Call}
 use Rattle.runs.specs.declared.calls.Call.TheVariants.{Deliver}
 use Rattle.model_wording.specs.declared.comparison.Comparison.{Comparison}
-use Rattle.model_wording.specs.declared.comparison.Comparison.TheVariants.{Alone, Agree, Parted}
+use Rattle.model_wording.specs.declared.comparison.Comparison.TheVariants.{Alone, Agree}
 use Rattle.model_wording.specs.Comparing.{is_by_glob, is_by_name, joined, calls_in, call_of, comparison_of, position_of, IsParted, PartedBelow, TellsParted, HasStatement, TellsCallAt}
 
 globs-calls : (ss : List DeliveryStatement) → calls_in (filter is_by_glob ss) ≡ by_globs (calls_in ss)

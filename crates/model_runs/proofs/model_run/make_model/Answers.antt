@@ -1,4 +1,4 @@
-use Rattle.std.proofs.Common.{◌≡◌, ◌∙◌, ap, map, vec_items, List}
+use Rattle.std.proofs.Common.{◌≡◌, ◌∙◌, ap, map, List}
 use Rattle.firmware.specs.declared.file.DeliveryStatement.{DeliveryStatement}
 use Rattle.item_scope.specs.declared.delivery.Delivery.{Delivery}
 use Rattle.runs.specs.declared.calls.Call.{Call}
