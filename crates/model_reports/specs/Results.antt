@@ -1,5 +1,5 @@
 -- What a model runs, and what is told of it.
-use Rattle.std.specs.Prelude.{◌≡◌, ℕ, ◌*◌, min, List, length, map, vec_items}
+use Rattle.std.specs.Prelude.{◌≡◌, ℕ, ◌*◌, min, List, length, map}
 use Rattle.std.specs.List.{flat_map}
 use Rattle.hir_def.specs.declared.ModuleDefId.{ModuleDefId}
 use Rattle.item_scope.specs.Views.{View}
