@@ -1,4 +1,7 @@
 // The index to which the deliveries of a file are made: its make, and the rows that it is lent.
+ghost use Rattle.std.specs.Prelude.{◌≡◌};
+ghost use Rattle.model_reports.specs.Results.{rows_for};
+
 use crate::models::write_models;
 use firmware::pile::Part;
 use firmware::survey::{Hashers, Survey, tables_of};
@@ -26,7 +29,9 @@ pub struct Lending {
 
 impl Lending {
     // Rows for all deliveries of the base, three for each, or fewer.
-    fn rows_for(self, survey: &Survey) -> usize {
+    fn rows_for(self, survey: &Survey) -> usize
+        ensures { result ≡ rows_for survey.now.firmware.now self.rows }
+    {
         let deliveries = survey.firmware.deliveries_of(Part::Base);
         self.rows.min(deliveries.len().saturating_mul(3))
     }

@@ -5,4 +5,5 @@ pub mod files;
 pub mod indexed;
 mod model_report;
 pub mod models;
+mod results;
 mod verdict_report;

@@ -1,27 +1,22 @@
 // Writes the report on one model: its deliveries in two orders, the answers to its paths, the verdicts on its items, its account.
-ghost use Rattle.std.specs.Prelude.{◌≡◌, IfOk, vec_items, map};
-ghost use Rattle.cuts.specs.Asked.{answered_by};
+ghost use Rattle.std.specs.Prelude.{IfOk};
+ghost use Rattle.model_reports.specs.Said.{SaysOf};
 
+use crate::results::Results;
 use crate::verdict_report::write_verdicts;
 use bstr::BStr;
-use cuts::asked::{Answered, Ask, answer};
-use cuts::reached::Reached;
-use firmware::file::DeliveryStatement;
+use cuts::asked::{Answered, Ask};
 use firmware::models::Model;
-use firmware::pile::Part;
 use firmware::survey::Survey;
-use hir_def::ModuleId;
 use hir_def::fault::Fault;
 use item_scope::index::Index;
-use model_runs::model_run::{Made, make_model, outcomes_of};
-use model_runs::parts::{asks_of, items_of};
 use model_wording::comparison::Comparison;
-use model_wording::model_json::{model_account_value, model_path_value, model_value, orders_value};
+use model_wording::model_json::{
+    PathSaid, model_account_value, model_path_value, model_value, orders_value,
+};
 use model_wording::model_told::{
     ComparisonTold, ModelAccount, ModelAccountLine, ModelLine, ModelTold, OrdersLine,
 };
-use path_resolution::question::{BuiltinShadowMode, Question, ResolveMode};
-use path_text::mod_path::{ModPath, PathKind};
 use paths::show::PathLine;
 use report_json::answer_json::{answer_value, refused_path_value};
 use report_json::json::write_value;
@@ -29,17 +24,8 @@ use reports::answer_report::{write_line, write_refused, write_told};
 use reports::place_report::write_refused_deliveries;
 use reports::report::text_of;
 use reports::style::{Form, Style};
-use serde_json::Value;
 use std::alloc::{AllocError, Global};
 use std::io;
-
-// Whoever asks where no path of the model is asked.
-const NOBODY: Question = Question {
-    mode: ResolveMode::Other,
-    original_module: ModuleId(0),
-    shadow: BuiltinShadowMode::Other,
-    expected_macro_subns: None,
-};
 
 fn write_model_told<W: io::Write>(
     alloc: Global,
@@ -83,50 +69,6 @@ fn write_comparison<W: io::Write>(
     }
 }
 
-// The model, with the first of its paths asked in both orders; where it has none, module 0 asks for itself.
-fn made_for<'a, I: Index>(
-    alloc: Global,
-    below: &'a I,
-    statements: &[DeliveryStatement],
-    asks: &[Ask],
-) -> Result<Made<'a, I>, AllocError> {
-    match asks.first() {
-        Some(ask) => make_model(alloc, below, statements, ask.question, ask.path),
-        None => {
-            let path = ModPath {
-                kind: PathKind::Super(0),
-                names: Vec::new(alloc),
-            };
-            make_model(alloc, below, statements, NOBODY, &path)
-        }
-    }
-}
-
-// Asks the index each path, and says how far it has come.
-#[tactic(auto, using(crate::proofs::Answered::mapped))]
-fn answer_all<'s, I: Index, E: io::Write>(
-    alloc: Global,
-    progress: &mut E,
-    path: &str,
-    model: &str,
-    index: &I,
-    asks: &[Ask<'s>],
-    style: Style,
-) -> io::Result<Vec<Answered<'s>>>
-    ensures { IfOk result (λ v. vec_items v ≡ map (answered_by (I.view index.now)) asks.now) }
-{
-    let mut answers = Vec::new(alloc);
-    for ask in asks.iter() {
-        let done = answers.len();
-        if style.progress && done % 10_000 == 0 {
-            let all = asks.len();
-            writeln!(progress, "{path}: model {model}, {done} of {all} paths")?;
-        }
-        answers.push(answer(index, ask))?;
-    }
-    Ok(answers)
-}
-
 fn write_path_text<W: io::Write>(
     alloc: Global,
     w: &mut W,
@@ -158,6 +100,23 @@ fn write_path_line<W: io::Write>(
     }
 }
 
+// What is told of a path that the model asks.
+fn said_of(alloc: Global, survey: &Survey, answered: &Answered) -> Result<PathSaid, AllocError>
+    ensures { IfOk result (λ s. SaysOf survey.now answered.now s) }
+{
+    let Ask { question, path, .. } = answered.ask;
+    match answered.result {
+        Ok(answer) => {
+            let value = answer_value(alloc, survey, path, question, answer)?;
+            Ok(PathSaid::Answer(value))
+        }
+        Err(fault) => {
+            let value = refused_path_value(alloc, Fault::Path(fault))?;
+            Ok(PathSaid::Refusal(value))
+        }
+    }
+}
+
 fn write_path_json<W: io::Write>(
     alloc: Global,
     w: &mut W,
@@ -165,22 +124,12 @@ fn write_path_json<W: io::Write>(
     model: &str,
     answered: &Answered,
 ) -> io::Result<()> {
-    let Ask {
-        number,
-        question,
-        path,
-    } = answered.ask;
+    let Ask { number, path, .. } = answered.ask;
     let text = text_of(alloc, survey.list, path)?;
     let text = String::from_utf8_lossy(alloc, text.as_slice())?;
-    let (answer, refused) = match answered.result {
-        Ok(answer) => (
-            answer_value(alloc, survey, path, question, answer)?,
-            Value::Null,
-        ),
-        Err(fault) => (Value::Null, refused_path_value(alloc, Fault::Path(fault))?),
-    };
+    let said = said_of(alloc, survey, answered)?;
     let line = survey.firmware.path_line(number);
-    let value = model_path_value(alloc, model, text.as_str(), line, &answer, &refused)?;
+    let value = model_path_value(alloc, model, text.as_str(), line, &said)?;
     write_value(alloc, w, &value)
 }
 
@@ -221,7 +170,7 @@ fn write_account<W: io::Write>(
     }
 }
 
-/// Makes the model's deliveries to two variants over the index, and writes the report on the first.
+/// Makes the model's deliveries to two variants over the index, asks its paths, and writes what comes of it.
 pub(crate) fn write_model<'a, I: Index, W: io::Write, E: io::Write>(
     alloc: Global,
     w: &mut W,
@@ -232,45 +181,14 @@ pub(crate) fn write_model<'a, I: Index, W: io::Write, E: io::Write>(
     below: &I,
     style: Style,
 ) -> io::Result<()> {
-    let parts = model.pile.parts(alloc)?;
-    let asks = asks_of(alloc, survey, parts.as_slice())?;
-    let items = items_of(alloc, survey.firmware, parts.as_slice())?;
-    let statements = survey.firmware.deliveries_of(Part::Model(model.pile.top()));
-    let made = made_for(alloc, below, statements, asks.as_slice())?;
-    let orders = &made.orders;
-    let outcomes = outcomes_of(alloc, statements, orders.first.as_slice())?;
-    let comparison = Comparison::of(alloc, statements, orders.order, orders.agreement)?;
-    let answers = answer_all(
-        alloc,
-        progress,
-        path,
-        model.name,
-        &made.index,
-        asks.as_slice(),
-        style,
-    )?;
-    let reached = Reached::of(alloc, &survey.firmware.definitions, answers.as_slice())?;
-    let told = ModelTold::of(survey.firmware.models.as_slice(), model);
-    write_model_told(alloc, w, told, style.form)?;
-    write_comparison(alloc, w, model.name, comparison, style.form)?;
-    write_paths(alloc, w, survey, model.name, answers.as_slice(), style.form)?;
-    write_refused_deliveries(alloc, w, outcomes.as_slice(), style.form)?;
-    write_verdicts(
-        alloc,
-        w,
-        survey,
-        model.name,
-        items.as_slice(),
-        &reached,
-        style.form,
-    )?;
-    let account = ModelAccount::of(
-        model.name,
-        answers.as_slice(),
-        &reached,
-        items.as_slice(),
-        outcomes.as_slice(),
-        made.index.left(),
-    );
-    write_account(alloc, w, account, style.form)
+    let form = style.form;
+    let name = model.name;
+    let results = Results::of(alloc, progress, path, survey, model, below, style)?;
+    write_model_told(alloc, w, results.told, form)?;
+    write_comparison(alloc, w, name, results.comparison, form)?;
+    write_paths(alloc, w, survey, name, results.answers.as_slice(), form)?;
+    write_refused_deliveries(alloc, w, results.made.outcomes.as_slice(), form)?;
+    let items = results.items.as_slice();
+    write_verdicts(alloc, w, survey, name, items, &results.reached, form)?;
+    write_account(alloc, w, results.account, form)
 }

@@ -1,4 +1,7 @@
 // Writes which items a model keeps, and why, and which it cuts.
+ghost use Rattle.std.specs.Prelude.{◌≡◌};
+ghost use Rattle.model_reports.specs.Results.{item_told};
+
 use cuts::reached::{Reached, Reason};
 use cuts::verdict::Verdict;
 use firmware::survey::Survey;
@@ -13,13 +16,17 @@ use std::alloc::Global;
 use std::io;
 use wording::holders::Told;
 
-fn told<'a>(survey: &Survey<'_, 'a>, def: ModuleDefId) -> Told<'a> {
+// The item by its statement.
+fn item_told<'a>(survey: &Survey<'_, 'a>, def: ModuleDefId) -> Told<'a>
+    ensures { result ≡ item_told survey.now.firmware.now def }
+{
     Told {
         def,
         definition: survey.firmware.definitions.get(def),
     }
 }
 
+// The path of a reason is one of the file's, so the error never comes.
 fn write_kept<W: io::Write>(
     alloc: Global,
     w: &mut W,
@@ -30,11 +37,11 @@ fn write_kept<W: io::Write>(
     form: Form,
 ) -> io::Result<()> {
     let Some(path) = survey.paths.get(reason.path) else {
-        return Ok(());
+        return Err(io::Error::from(io::ErrorKind::InvalidData));
     };
     let text = text_of(alloc, survey.list, path)?;
     let told = KeptTold {
-        item: told(survey, item),
+        item: item_told(survey, item),
         reason: ReasonTold::of(survey.firmware, text.as_slice(), reason),
     };
     match form {
@@ -44,8 +51,7 @@ fn write_kept<W: io::Write>(
             write!(w, "{line}\n")
         }
         Form::Json => {
-            let path = String::from_utf8_lossy(alloc, text.as_slice())?;
-            let value = kept_value(alloc, model, told.item, path.as_str(), told.reason)?;
+            let value = kept_value(alloc, model, told.item, told.reason)?;
             write_value(alloc, w, &value)
         }
     }
@@ -59,7 +65,7 @@ fn write_cut<W: io::Write>(
     item: ModuleDefId,
     form: Form,
 ) -> io::Result<()> {
-    let item = told(survey, item);
+    let item = item_told(survey, item);
     match form {
         Form::Text => {
             let told = CutTold(item);

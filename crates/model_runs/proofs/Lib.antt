@@ -1,3 +1,4 @@
 pub mod Asking
 pub mod Modelling
+pub mod Positions
 pub mod Steps

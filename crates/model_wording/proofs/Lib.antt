@@ -1,1 +1,2 @@
 pub mod Filtered
+pub mod Joined

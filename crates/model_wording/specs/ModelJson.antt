@@ -1,10 +1,10 @@
 -- What is written of a model as JSON. The members are in the order of their names.
 use Rattle.std.specs.Prelude.{ℕ, Bool, true, false, List, Option, Some, None, codes, option_map}
-use Rattle.std.specs.Option.{option_and_then}
 use Rattle.std.specs.Borrow.{Bor}
+use Rattle.std.specs.Str.Lossy.{utf8_lossy}
 use Rattle.serde_json.specs.Data.{Data, null, boolean, number, unsigned, string, object, member, no_members}
+use Rattle.serde_json.specs.View.{view}
 use Rattle.cuts.specs.declared.verdict.Tally.{Tally}
-use Rattle.hir_def.specs.declared.Namespace.{Namespace}
 use Rattle.firmware.specs.declared.definition.Definition.{Definition}
 use Rattle.firmware.specs.declared.file.DeliveryStatement.{DeliveryStatement}
 use Rattle.orders.specs.declared.order.Order.{Order}
@@ -15,6 +15,8 @@ use Rattle.report_json.specs.PlaceJson.{line_data}
 use Rattle.wording.specs.Places.{by_word, kind_word, namespace_word, told_text}
 use Rattle.model_wording.specs.declared.comparison.Comparison.{Comparison}
 use Rattle.model_wording.specs.declared.comparison.Comparison.TheVariants.{Alone, Agree, Parted}
+use Rattle.model_wording.specs.declared.model_json.PathSaid.{PathSaid}
+use Rattle.model_wording.specs.declared.model_json.PathSaid.TheVariants.{Answer, Refusal}
 use Rattle.model_wording.specs.declared.model_told.ModelAccount.{ModelAccount}
 use Rattle.model_wording.specs.declared.reason_told.ReasonTold.{ReasonTold}
 use Rattle.model_wording.specs.ItemTold.{line_of}
@@ -56,22 +58,26 @@ orders_object model order agree differed parted = object
 abbrev pub orders_data : List ℕ → Comparison → Data
 orders_data model Alone = orders_object model None true None None
 orders_data model (Agree o d) = orders_object model (Some o) true d None
-orders_data model (Parted o s) = orders_object model (Some o) false None (Some s)
+orders_data model (Parted o s) = orders_object model (Some o) false None s
 
 abbrev pub path_data : List ℕ → Option ℕ → Data
 path_data path line = object
     (member (codes "line") (line_data line)
-    (member (codes "path") (string path) no_members))
+    (member (codes "path") (string (utf8_lossy path)) no_members))
 
--- a path that a model asks: its answer, or why it is not asked
-abbrev pub asked_data : List ℕ → List ℕ → Option ℕ → Data → Data → Data
-asked_data model path line answer denied = object
+abbrev pub asked_object : List ℕ → List ℕ → Option ℕ → Data → Data → Data
+asked_object model path line answer denied = object
     (member (codes "answer") answer
     (member (codes "kind") (string (codes "model-path"))
     (member (codes "line") (line_data line)
     (member (codes "model") (string model)
     (member (codes "path") (string path)
     (member (codes "refused") denied no_members))))))
+
+-- a path that a model asks: its answer, or why it is not asked
+abbrev pub asked_data : List ℕ → List ℕ → Option ℕ → PathSaid → Data
+asked_data model path line (Answer v) = asked_object model path line (view v) null
+asked_data model path line (Refusal v) = asked_object model path line null (view v)
 
 abbrev pub item_data : Told → Data
 item_data t = object
@@ -105,9 +111,9 @@ kept_object model item path through by line = object
     (member (codes "path") path
     (member (codes "through") through no_members)))))))
 
-abbrev pub kept_data : List ℕ → Told → List ℕ → ReasonTold → Data
-kept_data model t path r =
-    kept_object model (item_data t) (path_data path r.line) (through_data (namespace_word r.namespace) (variant_name r.holder) r.place) (by_data r.holder) (by_line r.holder)
+abbrev pub kept_data : List ℕ → Told → ReasonTold → Data
+kept_data model t r =
+    kept_object model (item_data t) (path_data r.path.now r.line) (through_data (namespace_word r.namespace) (variant_name r.holder) r.place) (by_data r.holder) (by_line r.holder)
 
 abbrev pub cut_data : List ℕ → Told → Data
 cut_data model t = object

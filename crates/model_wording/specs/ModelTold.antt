@@ -42,11 +42,16 @@ abbrev pub differed_told : Option DeliveryStatement → List ℕ
 differed_told None = []
 differed_told (Some s) = codes "; on the way " ++ place_at s ++ codes " differed, line " ++ decimal s.line
 
+-- the first delivery that parted
+abbrev pub parted_told : Option DeliveryStatement → List ℕ
+parted_told None = codes "a delivery"
+parted_told (Some s) = codes "the " ++ delivery_told s
+
 abbrev pub comparison_told : Comparison → List ℕ
 comparison_told Alone = codes "    no other order to compare\n"
 comparison_told (Agree o d) = codes "    deliveries in the file's order and " ++ order_told o ++ codes ": every question has one answer" ++ differed_told d ++ codes "\n"
 comparison_told (Parted o s) =
-    codes "    deliveries in the file's order and " ++ order_told o ++ codes ": the " ++ delivery_told s
+    codes "    deliveries in the file's order and " ++ order_told o ++ codes ": " ++ parted_told s
     ++ codes " is taken in one order and refused in the other, so no agreement is claimed\n"
 
 abbrev pub statement_words : Option DeliveryStatement → List ℕ
@@ -56,7 +61,7 @@ statement_words (Some s) = s.name.now ++ codes " " ++ s.«module».now ++ codes 
 abbrev pub comparison_words : Comparison → List ℕ
 comparison_words Alone = codes "- agree - - -"
 comparison_words (Agree o d) = order_word o ++ codes " agree " ++ statement_words d
-comparison_words (Parted o s) = order_word o ++ codes " parted " ++ statement_words (Some s)
+comparison_words (Parted o s) = order_word o ++ codes " parted " ++ statement_words s
 
 abbrev pub orders_line : List ℕ → Comparison → List ℕ
 orders_line model c = codes "orders " ++ model ++ codes " " ++ comparison_words c

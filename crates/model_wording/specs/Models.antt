@@ -1,12 +1,19 @@
 -- What is told of a model, and the numbers of its account.
-use Rattle.std.specs.Prelude.{ℕ, ◌-◌, Bool, List, length, Option, Some, None, is_err}
+use Rattle.std.specs.Prelude.{ℕ, ◌-◌, Bool, List, length, filter, Option, Some, None, is_err}
 use Rattle.std.specs.List.{slice_get}
 use Rattle.std.specs.Option.{option_map, option_and_then}
+use Rattle.std.specs.Borrow.{Bor}
+use Rattle.hir_def.specs.declared.ModuleDefId.{ModuleDefId}
 use Rattle.cuts.specs.declared.asked.Answered.{Answered}
+use Rattle.cuts.specs.declared.reached.Reason.{Reason}
+use Rattle.cuts.specs.Verdicts.{is_kept, is_cut}
+use Rattle.firmware.specs.declared.deliveries.Outcome.{Outcome}
 use Rattle.firmware.specs.declared.models.Model.{Model}
 use Rattle.firmware.specs.declared.pile.Pile.{Pile}
 use Rattle.firmware.specs.declared.pile.Pile.TheVariants.{One, Two, Three}
 use Rattle.firmware.specs.Piles.{parts_of}
+use Rattle.wording.specs.Outcomes.{counts_of}
+use Rattle.model_wording.specs.declared.model_told.ModelAccount.{ModelAccount}
 use Rattle.model_wording.specs.declared.model_told.ModelTold.{ModelTold}
 
 -- the model right below the highest one; none where that stands on the base
@@ -28,3 +35,14 @@ is_refused a = is_err a.result
 
 abbrev pub most_own_places : ℕ
 most_own_places = 64
+
+-- what the paths were answered, which items have a reason, what came of the deliveries, and how many places they took
+abbrev pub account_of : Bor (List ℕ) → List Answered → (ModuleDefId → Option Reason) → List ModuleDefId → List Outcome → ℕ → ModelAccount
+account_of model answers reason items outcomes left = record {
+  model = model;
+  asked = length answers;
+  refused = length (filter is_refused answers);
+  items = record { kept = length (filter (λ i. is_kept (reason i)) items); cut = length (filter (λ i. is_cut (reason i)) items) };
+  deliveries = counts_of outcomes;
+  places = most_own_places - left;
+}

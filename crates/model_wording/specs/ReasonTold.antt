@@ -1,6 +1,5 @@
 -- What is written of why an item is kept.
 use Rattle.std.specs.Prelude.{ℕ, List, [], ◌++◌, Option, Some, None, codes, option_map}
-use Rattle.std.specs.Option.{option_and_then}
 use Rattle.std.specs.Borrow.{Bor}
 use Rattle.hir_def.specs.declared.ModuleDefId.{ModuleDefId}
 use Rattle.hir_def.specs.declared.ModuleDefId.TheVariants as def
@@ -8,7 +7,6 @@ use Rattle.hir_def.specs.declared.Namespace.{Namespace}
 use Rattle.firmware.specs.declared.definition.Definition.{Definition}
 use Rattle.paths.specs.Told.{as_text}
 use Rattle.wording.specs.declared.holders.Holder.{Holder}
-use Rattle.wording.specs.declared.holders.Told.{Told}
 use Rattle.wording.specs.Places.{by_word, line_text, namespace_word}
 use Rattle.model_wording.specs.declared.reason_told.ReasonTold.{ReasonTold}
 

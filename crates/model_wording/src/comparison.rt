@@ -1,8 +1,9 @@
 // Whether two orders of a model's deliveries come to the same, told by the statements of the file.
-ghost use Rattle.std.specs.Prelude.{◌≡◌, IfOk, vec_items, filter};
+ghost use Rattle.std.specs.Prelude.{◌≡◌, ◌↔◌, IfOk, vec_items, filter, length};
 ghost use Rattle.std.specs.List.{slice_get};
 ghost use Rattle.std.specs.Option.{option_and_then};
-ghost use Rattle.model_wording.specs.Comparing.{is_by_glob, is_by_name, joined, compared, comparison_of};
+ghost use Rattle.orders.specs.Orders.{reordered};
+ghost use Rattle.model_wording.specs.Comparing.{is_by_glob, is_by_name, joined, calls_in, compared, comparison_of, position_of, IsParted, PartedBelow, TellsParted, HasStatement, TellsCallAt};
 
 use firmware::file::DeliveryStatement;
 use hir_def::import::ImportOrExternCrate;
@@ -18,8 +19,8 @@ pub enum Comparison<'a> {
     /// Each delivery is taken in both orders or refused in both, so that every question has one answer. The statement is the first
     /// that changed a place in one order and none in the other.
     Agree(Order, Option<DeliveryStatement<'a>>),
-    /// The first statement whose delivery is taken in one order and refused in the other.
-    Parted(Order, DeliveryStatement<'a>),
+    /// A delivery is taken in one order and refused in the other. The statement is the first such.
+    Parted(Order, Option<DeliveryStatement<'a>>),
 }
 
 // Whether a glob import makes the delivery.
@@ -92,38 +93,48 @@ fn at<'a>(
 }
 
 impl<'a> Comparison<'a> {
-    // What the agreement says of statements that stand in the other order.
+    // What the agreement says of statements that stand in the other order, and of which all are of one kind or not.
     fn told(
         statements: &[DeliveryStatement<'a>],
+        alone: bool,
         order: Order,
         agreement: Agreement,
     ) -> Comparison<'a>
-        ensures { result ≡ compared statements.now order agreement }
+        ensures { result ≡ compared statements.now alone order agreement }
     {
         match agreement {
-            Agreement::Agree { differed } => Comparison::Agree(order, at(statements, differed)),
-            Agreement::Parted(position) => match at(statements, Some(position)) {
-                Some(parted) => Comparison::Parted(order, parted),
-                None => Comparison::Alone,
-            },
+            Agreement::Agree { differed } => {
+                if alone {
+                    Comparison::Alone
+                } else {
+                    Comparison::Agree(order, at(statements, differed))
+                }
+            }
+            Agreement::Parted(position) => {
+                let parted = at(statements, Some(position));
+                Comparison::Parted(order, parted)
+            }
         }
     }
 
-    /// What the agreement of the statements' order with that other order says of them.
+    /// What the agreement of the statements' order with that other order says of them. Fails where memory is wanting.
+    #[tactic(auto, using(crate::proofs::Joined::parted, crate::proofs::Joined::tells_call))]
     pub fn of(
         alloc: Global,
         statements: &[DeliveryStatement<'a>],
         order: Order,
         agreement: Agreement,
     ) -> Result<Comparison<'a>, AllocError>
-        ensures { IfOk result (λ c. c ≡ comparison_of statements.now order agreement) }
+        ensures value { IfOk result (λ c. c ≡ comparison_of statements.now order agreement) }
+        ensures parted { IfOk result (λ c. TellsParted c ↔ IsParted agreement) }
+        ensures stands { PartedBelow (length statements.now) agreement → IfOk result HasStatement }
+        // The statement that is told is the one whose call stands at the agreement's position in the other order.
+        ensures position { IfOk result (TellsCallAt (reordered order (calls_in statements.now)) (position_of agreement)) }
     {
         let globs = by_glob(alloc, statements)?;
         let names = by_name(alloc, statements)?;
-        if globs.is_empty() || names.is_empty() {
-            return Ok(Comparison::Alone);
-        }
+        let alone = globs.is_empty() || names.is_empty();
         let list = joined(globs, names, order)?;
-        Ok(Comparison::told(list.as_slice(), order, agreement))
+        Ok(Comparison::told(list.as_slice(), alone, order, agreement))
     }
 }

@@ -1,7 +1,7 @@
 // A model as JSON: what it stands over, what two orders of its deliveries come to, its paths, what it keeps and cuts, its account.
 ghost use Rattle.std.specs.Prelude.{◌≡◌, IfOk};
 ghost use Rattle.serde_json.specs.View.{view};
-ghost use Rattle.model_wording.specs.ModelJson.{text_data, model_data, place_data, order_data, orders_object, orders_data, path_data, item_data, through_data, asked_data, by_data, by_line, kept_object, kept_data, cut_data, tally_data, paths_data, deliveries_data, account_data};
+ghost use Rattle.model_wording.specs.ModelJson.{text_data, model_data, place_data, order_data, orders_object, orders_data, path_data, item_data, through_data, asked_object, asked_data, by_data, by_line, kept_object, kept_data, cut_data, tally_data, paths_data, deliveries_data, account_data};
 
 use crate::comparison::Comparison;
 use crate::item_told::line_of;
@@ -90,21 +90,29 @@ pub fn orders_value(alloc: Global, model: &str, comparison: Comparison) -> Resul
             orders_object(alloc, model, Some(order), true, differed, None)
         }
         Comparison::Parted(order, parted) => {
-            orders_object(alloc, model, Some(order), false, None, Some(parted))
+            orders_object(alloc, model, Some(order), false, None, parted)
         }
     }
 }
 
 // A path and the line of its statement.
-fn path_value(alloc: Global, path: &str, line: Option<usize>) -> Result<Value, AllocError>
+fn path_value(alloc: Global, path: &[u8], line: Option<usize>) -> Result<Value, AllocError>
     ensures { IfOk result (λ v. view v ≡ path_data path.now line) }
 {
+    let path = String::from_utf8_lossy(alloc, path)?;
     let line = line_value(line);
-    json!(in alloc; {"path": path, "line": line})
+    json!(in alloc; {"path": path.as_str(), "line": line})
 }
 
-/// A path that a model asks, with the answer or the refusal as a value, and null for the other.
-pub fn model_path_value(
+/// What is told of a path that a model asks, as a value.
+#[derive(Drop)]
+pub enum PathSaid {
+    Answer(Value),
+    /// Why the path is not asked.
+    Refusal(Value),
+}
+
+fn asked_object(
     alloc: Global,
     model: &str,
     path: &str,
@@ -112,7 +120,7 @@ pub fn model_path_value(
     answer: &Value,
     not_asked: &Value,
 ) -> Result<Value, AllocError>
-    ensures { IfOk result (λ v. view v ≡ asked_data model.now path.now line (view answer.now) (view not_asked.now)) }
+    ensures { IfOk result (λ v. view v ≡ asked_object model.now path.now line (view answer.now) (view not_asked.now)) }
 {
     let line = line_value(line);
     json!(in alloc; {
@@ -123,6 +131,22 @@ pub fn model_path_value(
         "answer": answer,
         "refused": not_asked
     })
+}
+
+/// A path that a model asks, with its answer or its refusal, and null for the other.
+pub fn model_path_value(
+    alloc: Global,
+    model: &str,
+    path: &str,
+    line: Option<usize>,
+    said: &PathSaid,
+) -> Result<Value, AllocError>
+    ensures { IfOk result (λ v. view v ≡ asked_data model.now path.now line said.now) }
+{
+    match said {
+        PathSaid::Answer(answer) => asked_object(alloc, model, path, line, answer, &Value::Null),
+        PathSaid::Refusal(why) => asked_object(alloc, model, path, line, &Value::Null, why),
+    }
 }
 
 // An item and the line of its statement.
@@ -192,18 +216,17 @@ fn kept_object(
     })
 }
 
-/// An item that is kept, and why. The path is given as text.
+/// An item that is kept, and why.
 pub fn kept_value(
     alloc: Global,
     model: &str,
     item: Told,
-    path: &str,
     reason: ReasonTold,
 ) -> Result<Value, AllocError>
-    ensures { IfOk result (λ v. view v ≡ kept_data model.now item.entry path.now reason.entry) }
+    ensures { IfOk result (λ v. view v ≡ kept_data model.now item.entry reason.entry) }
 {
     let item = item_value(alloc, item)?;
-    let path = path_value(alloc, path, reason.line)?;
+    let path = path_value(alloc, reason.path, reason.line)?;
     let through = through_value(
         alloc,
         namespace_word(reason.namespace),

@@ -1,10 +1,8 @@
 // What is written of a model: its name and what it stands over, what two orders of its deliveries come to, and its account.
-ghost use Rattle.std.specs.Prelude.{◌≡◌, ◌-◌, Some, length, filter};
+ghost use Rattle.std.specs.Prelude.{◌≡◌, Some, length, filter};
 ghost use Rattle.cuts.specs.Reached.{said};
-ghost use Rattle.cuts.specs.Verdicts.{is_kept, is_cut};
-ghost use Rattle.wording.specs.Outcomes.{counts_of};
-ghost use Rattle.model_wording.specs.Models.{below_of, depth_of, told_of, is_refused, most_own_places};
-ghost use Rattle.model_wording.specs.ModelTold.{over_told, over_word, model_told, model_line, order_told, order_word, place_at, differed_told, comparison_told, statement_words, comparison_words, orders_line, account_words, places_words, account_line};
+ghost use Rattle.model_wording.specs.Models.{below_of, depth_of, told_of, is_refused, account_of};
+ghost use Rattle.model_wording.specs.ModelTold.{over_told, over_word, model_told, model_line, order_told, order_word, place_at, differed_told, parted_told, comparison_told, statement_words, comparison_words, orders_line, account_words, places_words, account_line};
 
 use crate::comparison::Comparison;
 use cuts::asked::Answered;
@@ -46,6 +44,10 @@ struct PlaceAt<'a>(DeliveryStatement<'a>);
 // What differed on the way, if anything did.
 #[derive(Clone, Copy)]
 struct DifferedTold<'a>(Option<DeliveryStatement<'a>>);
+
+// The first delivery that parted.
+#[derive(Clone, Copy)]
+struct PartedTold<'a>(Option<DeliveryStatement<'a>>);
 
 /// What two orders of a model's deliveries come to, as a line below the model.
 #[derive(Clone, Copy)]
@@ -138,13 +140,7 @@ impl<'a> ModelAccount<'a> {
         outcomes: &[Outcome],
         left: usize,
     ) -> ModelAccount<'a>
-        ensures model { result.model.now ≡ model.now }
-        ensures asked { result.asked ≡ length answers.now }
-        ensures refused { result.refused ≡ length (filter is_refused answers.now) }
-        ensures kept { result.items.kept ≡ length (filter (λ i. is_kept (said reached.now i)) items.now) }
-        ensures cut { result.items.cut ≡ length (filter (λ i. is_cut (said reached.now i)) items.now) }
-        ensures deliveries { result.deliveries ≡ counts_of outcomes.now }
-        ensures places { result.places ≡ most_own_places - left }
+        ensures { result ≡ account_of model.entry answers.now (said reached.now) items.now outcomes.now left }
     {
         ModelAccount {
             model,
@@ -244,6 +240,20 @@ impl<'a> fmt::Display for DifferedTold<'a> {
     }
 }
 
+impl<'a> fmt::Display for PartedTold<'a> {
+    ghost output = { λ p. Some (parted_told p.0) };
+
+    fn fmt<W: fmt::Write>(&self, f: &mut fmt::Formatter<W>) -> fmt::Result {
+        match self.0 {
+            Some(statement) => {
+                let delivery = DeliveryTold(statement);
+                write!(f, "the {delivery}")
+            }
+            None => f.write_str("a delivery"),
+        }
+    }
+}
+
 impl<'a> fmt::Display for ComparisonTold<'a> {
     ghost output = { λ c. Some (comparison_told c.0) };
 
@@ -260,10 +270,10 @@ impl<'a> fmt::Display for ComparisonTold<'a> {
             }
             Comparison::Parted(order, parted) => {
                 let order = order_told(order);
-                let parted = DeliveryTold(parted);
+                let parted = PartedTold(parted);
                 write!(
                     f,
-                    "    deliveries in the file's order and {order}: the {parted} is taken in one order and refused in the other, so no agreement is claimed\n"
+                    "    deliveries in the file's order and {order}: {parted} is taken in one order and refused in the other, so no agreement is claimed\n"
                 )
             }
         }
@@ -299,7 +309,7 @@ impl<'a> fmt::Display for ComparisonWords<'a> {
             }
             Comparison::Parted(order, parted) => {
                 let order = order_word(order);
-                let words = StatementWords(Some(parted));
+                let words = StatementWords(parted);
                 write!(f, "{order} parted {words}")
             }
         }

@@ -72,9 +72,9 @@ abbrev pub seers_data : List (List ℕ) → Option (Vec ModuleId) → Bool → D
 seers_data names seers all = if all then named names seers else null
 
 -- an item and who sees it
-abbrev pub item_seen : List (List ℕ) → Declared → Seen → ModuleId → Bool → Data
-item_seen names d s m all =
-    item_data d (visibility_text names d.vis) (range_text s.range) (of_data names s.range m) s.count (seers_data names s.seers all)
+abbrev pub item_seen : List (List ℕ) → Declared → Seen → Bool → Data
+item_seen names d s all =
+    item_data d (visibility_text names d.vis) (range_text s.range) (of_data names s.range s.of) s.count (seers_data names s.seers all)
 
 -- why an item is refused, with a sentence beside the refusal
 abbrev pub refused_data : Declared → List ℕ → FaultCode → List ℕ → Data

@@ -111,10 +111,9 @@ pub fn item_value(
     names: &[&str],
     item: Declared,
     seen: &Seen,
-    of: ModuleId,
     all: bool,
 ) -> Result<Value, AllocError>
-    ensures { IfOk result (λ v. view v ≡ item_seen (held names.now) item.entry seen.now of all) }
+    ensures { IfOk result (λ v. view v ≡ item_seen (held names.now) item.entry seen.now all) }
 {
     let vis = VisibilityText {
         names,
@@ -122,7 +121,7 @@ pub fn item_value(
     };
     let vis = format!(in alloc; "{vis}")?;
     let range = seen.range.text(alloc)?;
-    let name = range_name(alloc, names, seen.range, of)?;
+    let name = range_name(alloc, names, seen.range, seen.of)?;
     let seers = seers_of(alloc, names, seen, all)?;
     item_object(
         alloc,

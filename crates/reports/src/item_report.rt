@@ -4,7 +4,6 @@ use entries::account::Account;
 use entries::visibility::Visibility;
 use firmware::file::Declared;
 use firmware::survey::Survey;
-use hir_def::ModuleId;
 use hir_def::fault::{Failure, Fault, TreeFault};
 use nameres::Tree;
 use report_json::json::{item_value, refused_value, write_value};
@@ -45,7 +44,6 @@ fn write_seen<'a, W: io::Write>(
     modules: u32,
     item: Declared<'a>,
     seen: &'a Seen,
-    of: ModuleId,
     style: Style,
 ) -> io::Result<()> {
     match style.form {
@@ -55,7 +53,6 @@ fn write_seen<'a, W: io::Write>(
                 names,
                 modules,
                 seen,
-                of,
             };
             write!(w, "{item}\n{seen}")
         }
@@ -64,7 +61,7 @@ fn write_seen<'a, W: io::Write>(
             write!(w, "{line}\n")
         }
         Form::Json => {
-            let value = item_value(alloc, names, item, seen, of, style.all)?;
+            let value = item_value(alloc, names, item, seen, style.all)?;
             write_value(alloc, w, &value)
         }
     }
@@ -113,9 +110,8 @@ fn write_item<W: io::Write>(
         Ok(seen) => {
             let names = survey.firmware.names.as_slice();
             let modules = survey.tables.modules();
-            let of = seen.range.named_by(&survey.tables);
             account.add_item(seen.count as u64, u64::from(modules));
-            write_seen(alloc, w, names, modules, item, seen, of, style)
+            write_seen(alloc, w, names, modules, item, seen, style)
         }
         Err(Failure::Refused(fault)) => {
             account.add_refused();

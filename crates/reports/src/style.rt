@@ -1,4 +1,6 @@
 // How a report is written.
+ghost use Rattle.std.specs.Prelude.{◌≡◌};
+ghost use Rattle.reports.specs.Styles.{most_named};
 
 #[derive(Clone, Copy, PartialEq, Eq, Debug)]
 pub enum Form {
@@ -24,7 +26,9 @@ pub const FEW: usize = 20;
 
 impl Style {
     /// Up to so many modules are named.
-    pub(crate) fn most(self) -> usize {
+    pub(crate) fn most(self) -> usize
+        ensures { result ≡ most_named self }
+    {
         match self.form {
             _ if self.all => usize::MAX,
             Form::Text => FEW,

@@ -36,9 +36,9 @@ Told All = Unit {0}
 Told (Crate c) = c.0 < 2 ^ 32
 Told (Inside m) = m.0 < 2 ^ 32
 
--- no other range is written as this one
-abbrev pub ToldApart : Range → Type 0
-ToldApart r = (s : Range) → Told s → range_text s ≡ range_text r → s ≡ r
+-- no other range is written as this text
+abbrev pub ToldApart : Range → List ℕ → Type 0
+ToldApart r text = (s : Range) → Told s → range_text s ≡ text → s ≡ r
 
 -- how many a list has, where there is one
 abbrev pub counted : Result (List ModuleId) TreeFault → Result ℕ TreeFault

@@ -34,10 +34,10 @@ seers_told names modules count range m (Some v) =
 seers_told names modules count range m None =
     codes "    seen from all " ++ grouped count ++ codes " modules" ++ range_told names range m ++ codes "\n"
 
-abbrev pub seen_told : List (List ℕ) → ℕ → Seen → ModuleId → List ℕ
-seen_told names modules s m =
+abbrev pub seen_told : List (List ℕ) → ℕ → Seen → List ℕ
+seen_told names modules s =
     if s.count == modules then codes "    seen from all " ++ decimal modules ++ codes " modules\n"
-    else seers_told names modules s.count s.range m s.seers
+    else seers_told names modules s.count s.range s.of s.seers
 
 abbrev seers_of : Option (Vec ModuleId) → List ModuleId
 seers_of None = []

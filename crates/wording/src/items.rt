@@ -31,8 +31,6 @@ pub struct SeenTold<'a> {
     /// How many modules there are.
     pub modules: u32,
     pub seen: &'a Seen,
-    /// The module that the range is named by: the crate's root, or the one that all others are inside.
-    pub of: ModuleId,
 }
 
 /// An item and who sees it as a line: `seen`, its name, its module, how many see it, and each that is named.
@@ -122,7 +120,7 @@ impl<'a> fmt::Display for ItemTold<'a> {
 }
 
 impl<'a> fmt::Display for SeenTold<'a> {
-    ghost output = { λ s. Some (seen_told (held s.names.now) s.modules s.seen.now s.of) };
+    ghost output = { λ s. Some (seen_told (held s.names.now) s.modules s.seen.now) };
 
     fn fmt<W: fmt::Write>(&self, f: &mut fmt::Formatter<W>) -> fmt::Result {
         let names = self.names;
@@ -145,7 +143,7 @@ impl<'a> fmt::Display for SeenTold<'a> {
                 let range = RangeTold {
                     names,
                     range: self.seen.range,
-                    of: self.of,
+                    of: self.seen.of,
                 };
                 write!(f, "    seen from all {count} modules{range}\n")
             }

@@ -1,5 +1,5 @@
 // Whom a visibility reaches, as a range of modules.
-ghost use Rattle.std.specs.Prelude.{◌≡◌, Some, IfOk, OnOk, string_bytes};
+ghost use Rattle.std.specs.Prelude.{◌≡◌, Some, IfOk, string_bytes};
 ghost use Rattle.hir_def.specs.declared.ModuleId.{ModuleId};
 ghost use Rattle.entries.specs.Visibilities.{visible};
 ghost use Rattle.wording.specs.declared.range.Range.{Range};
@@ -50,10 +50,10 @@ impl Range {
 
 #[tactic(auto, using(crate::proofs::Ranges::told_apart))]
 impl Range {
-    /// The range as it is written.
+    /// The range as it is written, which no other one is.
     pub fn text(self, alloc: Global) -> Result<String, AllocError>
         ensures value { IfOk result (λ t. string_bytes t ≡ range_text self) }
-        ensures alone { OnOk result (ToldApart self) }
+        ensures alone { IfOk result (λ t. ToldApart self (string_bytes t)) }
     {
         self.to_string(alloc)
     }

@@ -2,7 +2,7 @@
 ghost use Rattle.std.specs.Prelude.{◌≡◌, length, filter, Ok};
 ghost use Rattle.entries.specs.Viewers.{all_modules, viewers_of};
 ghost use Rattle.entries.specs.Visibilities.{visible};
-ghost use Rattle.wording.specs.Ranges.{counted, range_of};
+ghost use Rattle.wording.specs.Ranges.{counted};
 ghost use Rattle.wording.specs.Counts.{FewOf, SeenOf};
 
 use crate::range::Range;
@@ -17,6 +17,8 @@ use std::alloc::Global;
 #[derive(Drop)]
 pub struct Seen {
     pub range: Range,
+    /// The module that the range is named by: the crate's root, or the one that all others are inside.
+    pub of: ModuleId,
     /// How many modules see it.
     pub count: usize,
     /// These modules in the order of their numbers, where they are few enough to be named.
@@ -60,19 +62,22 @@ fn few_viewers<T: Tree>(
 }
 
 impl Seen {
-    /// Who sees what has that visibility; the modules themselves where they are no more than `most`.
+    /// Who sees what has that visibility; the modules themselves where they are no more than `most`. Refused where the visibility names
+    /// what does not exist; only a list of modules wants memory.
     pub fn of<T: Tree>(
         alloc: Global,
         tree: &T,
         vis: Visibility,
         most: usize,
     ) -> Result<Seen, Failure<TreeFault>>
-        ensures { SeenOf (viewers_of (T.shape tree.now) vis) (range_of (T.shape tree.now) vis) most result }
+        ensures { SeenOf (T.shape tree.now) vis (viewers_of (T.shape tree.now) vis) most result }
     {
         let count = count_viewers(tree, vis)?;
         let seers = few_viewers(alloc, tree, vis, count, most)?;
+        let range = Range::of(tree, vis);
         Ok(Seen {
-            range: Range::of(tree, vis),
+            range,
+            of: range.named_by(tree),
             count,
             seers,
         })

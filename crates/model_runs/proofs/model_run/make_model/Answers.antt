@@ -1,22 +1,35 @@
-use Rattle.std.proofs.Common.{◌≡◌, ◌∙◌, ap, map}
-use Rattle.orders.specs.Orders.{calls_of}
+use Rattle.std.proofs.Common.{◌≡◌, ◌∙◌, ap, map, List}
 use Rattle.firmware.specs.declared.file.DeliveryStatement.{DeliveryStatement}
 use Rattle.item_scope.specs.declared.delivery.Delivery.{Delivery}
-use Rattle.model_runs.proofs.Modelling.{given_unmade, run_of}
+use Rattle.runs.specs.declared.calls.Call.{Call}
+use Rattle.model_runs.specs.Calls.{outcomes_of}
+use Rattle.model_runs.proofs.Modelling.{runs_over, compares, names_one}
 use Rattle.model_runs.proofs.model_run.make_model.Goals as goal
 
-pub returns-clause-calls : goal.returns-clause-calls
-returns-clause-calls g c =
+pub returns-clause-run : goal.returns-clause-run
+returns-clause-run g c =
     let p = c.as_slice.ensures.value in
     let q = c.in_ok-deliveries.ensures in
-    let delivery = λ (s : DeliveryStatement). s.delivery in
-    let e : c.as_slice.result.now ≡ map {A = DeliveryStatement} {B = Delivery} delivery c.args.statements.now = cc in
-    c.in_ok-orders.ensures.first.calls ∙ given_unmade c.as_slice.result.now ∙ ap calls_of e
+    let ss = c.args.statements.now in
+    let e : c.as_slice.result.now ≡ map {A = DeliveryStatement} {B = Delivery} (λ s. s.delivery) ss = cc in
+    let h = c.in_ok-outcomes.ensures ∙ ap (λ (cs : List Call). outcomes_of ss cs) c.as_slice-2.ensures.value in
+    runs_over _ ss _ e _ _ _ c.nothing.ensures _ _ _ _ _ _ c.new-first.ensures.view c.new-first.ensures.left c.in_ok-orders.ensures.first _ h
 
-pub returns-clause-second : goal.returns-clause-second
-returns-clause-second g c =
+pub returns-clause-compared : goal.returns-clause-compared
+returns-clause-compared g c =
     let p = c.as_slice.ensures.value in
     let q = c.in_ok-deliveries.ensures in
-    let delivery = λ (s : DeliveryStatement). s.delivery in
-    let e : c.as_slice.result.now ≡ map {A = DeliveryStatement} {B = Delivery} delivery c.args.statements.now = cc in
-    run_of _ _ _ _ _ _ _ _ _ _ _ _ _ e c.new-second.ensures.view c.new-second.ensures.left c.in_ok-orders.ensures.second c.nothing.ensures
+    let ss = c.args.statements.now in
+    let e : c.as_slice.result.now ≡ map {A = DeliveryStatement} {B = Delivery} (λ s. s.delivery) ss = cc in
+    let h = c.in_ok-outcomes.ensures ∙ ap (λ (cs : List Call). outcomes_of ss cs) c.as_slice-2.ensures.value in
+    let o = c.in_ok-orders.ensures in
+    compares _ ss _ e _ _ _ c.nothing.ensures _ _ _ _ _ _ c.new-first.ensures.view c.new-first.ensures.left o.first
+    _ _ _ _ _ _ _ _ c.new-second.ensures.view c.new-second.ensures.left o.second o.agreement o.agree _ h
+
+pub returns-clause-within : goal.returns-clause-within
+returns-clause-within g c =
+    let p = c.as_slice.ensures.value in
+    let q = c.in_ok-deliveries.ensures in
+    let ss = c.args.statements.now in
+    let e : c.as_slice.result.now ≡ map {A = DeliveryStatement} {B = Delivery} (λ s. s.delivery) ss = cc in
+    names_one _ ss _ e _ _ _ c.nothing.ensures _ _ _ _ _ _ c.new-first.ensures.view c.new-first.ensures.left c.in_ok-orders.ensures.first _ _ _ c.in_ok-orders.ensures.agreement
