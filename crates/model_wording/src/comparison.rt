@@ -6,7 +6,6 @@ ghost use Rattle.orders.specs.Orders.{reordered};
 ghost use Rattle.model_wording.specs.Comparing.{is_by_glob, is_by_name, joined, calls_in, compared, comparison_of, position_of, IsParted, PartedBelow, TellsParted, HasStatement, TellsCallAt};
 
 use firmware::file::DeliveryStatement;
-use hir_def::import::ImportOrExternCrate;
 use orders::agreement::Agreement;
 use orders::order::Order;
 use std::alloc::{AllocError, Global};
@@ -23,16 +22,6 @@ pub enum Comparison<'a> {
     Parted(Order, Option<DeliveryStatement<'a>>),
 }
 
-// Whether a glob import makes the delivery.
-fn is_by_glob(statement: &DeliveryStatement) -> bool
-    ensures { result ≡ is_by_glob statement.now }
-{
-    matches!(
-        statement.delivery.import,
-        Some(ImportOrExternCrate::Glob(_))
-    )
-}
-
 #[tactic(auto, using(crate::proofs::Filtered::taken, crate::proofs::Filtered::passed))]
 fn by_glob<'a>(
     alloc: Global,
@@ -42,7 +31,7 @@ fn by_glob<'a>(
 {
     let mut globs = Vec::new(alloc);
     for statement in statements {
-        if is_by_glob(statement) {
+        if statement.delivery.is_by_glob() {
             globs.push(*statement)?;
         }
     }
@@ -58,7 +47,7 @@ fn by_name<'a>(
 {
     let mut names = Vec::new(alloc);
     for statement in statements {
-        if !is_by_glob(statement) {
+        if !statement.delivery.is_by_glob() {
             names.push(*statement)?;
         }
     }
