@@ -1,3 +1,4 @@
 pub mod Written
 pub mod Receiving
+pub mod Sights
 pub mod Styles

@@ -1,41 +1,17 @@
 // Writes who may see each item.
+use crate::sights::Sights;
 use crate::style::{FEW, Form, Style};
 use entries::account::Account;
-use entries::visibility::Visibility;
 use firmware::file::Declared;
 use firmware::survey::Survey;
 use hir_def::fault::{Failure, Fault, TreeFault};
 use nameres::Tree;
 use report_json::json::{item_value, refused_value, write_value};
-use std::alloc::Global;
-use std::collections::HashMap;
-use std::collections::hash_map::Entry;
-use std::hash::{BuildHasherDefault, FoldHasher};
+use std::alloc::{AllocError, Global};
 use std::io;
 use troubles::trouble::FaultTold;
 use wording::items::{ItemTold, RefusedLine, SeenLine, SeenTold};
 use wording::seen::Seen;
-
-// Who sees what has each visibility that came up so far.
-#[derive(Drop)]
-struct Sights {
-    most: usize,
-    seen: HashMap<Visibility, Seen, BuildHasherDefault<FoldHasher>>,
-}
-
-impl Sights {
-    fn of<T: Tree>(
-        &mut self,
-        alloc: Global,
-        tree: &T,
-        vis: Visibility,
-    ) -> Result<&Seen, Failure<TreeFault>> {
-        match self.seen.entry(vis)? {
-            Entry::Occupied(known) => Ok(known.into_mut()),
-            Entry::Vacant(place) => Ok(place.insert(Seen::of(alloc, tree, vis, self.most)?)),
-        }
-    }
-}
 
 fn write_seen<'a, W: io::Write>(
     alloc: Global,
@@ -131,10 +107,7 @@ pub(crate) fn write_items<W: io::Write, E: io::Write>(
     style: Style,
 ) -> io::Result<Account> {
     let most = style.most();
-    let mut sights = Sights {
-        most,
-        seen: HashMap::new(alloc),
-    };
+    let mut sights = Sights::new(alloc, most);
     let mut account = Account::new();
     for (done, item) in survey.firmware.items.iter().enumerate() {
         if style.progress && done % 10_000 == 0 {
@@ -147,7 +120,10 @@ pub(crate) fn write_items<W: io::Write, E: io::Write>(
                 Err(e) => write_item(alloc, w, survey, *item, Err(e), &mut account, style)?,
             }
         } else {
-            let answer = sights.of(alloc, &survey.tables, item.vis);
+            let answer = match sights.look(alloc, &survey.tables, item.vis) {
+                Ok(()) => sights.get(item.vis).ok_or(Failure::from(AllocError)),
+                Err(e) => Err(e),
+            };
             write_item(alloc, w, survey, *item, answer, &mut account, style)?;
         }
     }

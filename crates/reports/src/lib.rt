@@ -5,4 +5,5 @@ pub mod answer_report;
 mod item_report;
 pub mod place_report;
 pub mod report;
+mod sights;
 pub mod style;
