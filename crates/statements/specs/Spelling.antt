@@ -2,6 +2,7 @@
 use Rattle.std.specs.Prelude.{◌≡◌, ◌≢◌, ⊤, ℕ, zero, suc, Bool, true, false, ◌⊎◌, if◌then◌else◌, List, [], ◌∷◌, take, codes, Option, Some, None, IsTrue, MatchBool, MatchOption}
 use Rattle.std.specs.Str.{bytes_eq}
 use Rattle.hir_def.specs.Editions.{edition_text}
+use Rattle.item_scope.specs.IndexData.{no_styles}
 use Rattle.item_scope.specs.declared.index_data.CallStyles.{CallStyles}
 use Rattle.memchr.specs.Find as find
 use Rattle.path_resolution.specs.declared.question.BuiltinShadowMode.TheVariants as shadow
@@ -77,13 +78,10 @@ IsSite s text = IsWord s.name (word 0 text) × IsPlace s.«module» s.vis (after
 abbrev pub after_site : Site → List ℕ → List ℕ
 after_site s text = after_visibility s.vis (after_words 3 text)
 
--- the styles of a macro: a word that is one, and up to two more
-abbrev pub no_styles : CallStyles
-no_styles = record { fn_like = false; attr = false; derive = false }
-
 unfoldable pub MayBeStyle : List ℕ → Type 0
 MayBeStyle w = (w ≡ []) ⊎ IsTrue (is_style w)
 
+-- the styles of a macro: a word that is one, and up to two more
 unfoldable pub AreStyles : CallStyles → List ℕ → Type 0
 AreStyles styles text =
     (styles ≡ with_style (with_style (with_style no_styles (word 0 text)) (word 1 text)) (word 2 text))

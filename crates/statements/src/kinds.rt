@@ -44,6 +44,7 @@ pub enum Bringing {
 }
 
 impl Shape {
+    /// Whether its name is a value too.
     pub fn has_constructor(self) -> bool
         ensures { result ≡ has_constructor self }
     {

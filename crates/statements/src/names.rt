@@ -14,7 +14,7 @@ use troubles::complaint::Complaint;
 const NAME: &str =
     "an identifier (a letter or `_`, then letters, digits or `_`, and not `_` alone) other than `crate`, `self` and `super`";
 
-/// The word as a name of one segment.
+/// The word as a name of one segment; refused where it is no such name, or is `crate`, `self` or `super`.
 pub fn name_of<'a>(word: Word<'a>) -> Result<&'a str, Complaint>
     ensures named { IfOk result (λ t. (t.now ≡ word.entry.text.now) × IsName word.entry.text.now) }
     ensures refused { IfErr result (λ _. ¬ (IsName word.entry.text.now × IsUtf8 word.entry.text.now)) }
@@ -26,7 +26,7 @@ pub fn name_of<'a>(word: Word<'a>) -> Result<&'a str, Complaint>
     text_of(word)
 }
 
-/// The word as text.
+/// The word as text; refused where its bytes are no UTF-8.
 pub fn text_of<'a>(word: Word<'a>) -> Result<&'a str, Complaint>
     ensures text { MatchResult result (λ t. (t.now ≡ word.entry.text.now) × IsUtf8 word.entry.text.now) (λ _. ¬ (IsUtf8 word.entry.text.now)) }
     ensures told { ToldIn word.entry.line result }
@@ -44,7 +44,7 @@ pub(crate) fn text_or_nothing<'a>(word: Word<'a>) -> &'a str
     std::str::from_utf8(word.text).unwrap_or("")
 }
 
-/// A full name as what stands before its last `::` and the name after it.
+/// A full name as what stands before its last `::` and the name after it; refused where it has no `::`.
 pub fn split<'a>(word: Word<'a>) -> Result<(Word<'a>, Word<'a>), Complaint>
     ensures parts { Parts word.entry.text.now result }
     ensures lines { IfOk result (λ p. (p.0.line ≡ word.entry.line) × (p.1.line ≡ word.entry.line)) }
@@ -70,7 +70,7 @@ pub fn split<'a>(word: Word<'a>) -> Result<(Word<'a>, Word<'a>), Complaint>
     Ok((outer_word, name_word))
 }
 
-/// `#7` is the module of row 7, whether or not there is one.
+/// `#7` is the module of row 7, whether or not there is one; none where the text is no `#` with a number below 2^32.
 #[tactic(auto, using(crate::proofs::Numbered::without_mark, crate::proofs::Numbered::without_number))]
 pub fn numbered(text: &[u8]) -> Option<u32>
     ensures number { IfSome result (λ n. text.now ≡ codes "#" ++ decimal n) }
@@ -83,7 +83,7 @@ pub fn numbered(text: &[u8]) -> Option<u32>
     }
 }
 
-/// The number of a new row after `count` others.
+/// The number of a new row after `count` others; refused from 2^32 on.
 pub fn row_number(word: Word, count: usize) -> Result<u32, Complaint>
     ensures number { IfOk result (λ n. n ≡ count) }
     ensures refused { IsErr result ↔ (2 ^ 32 ≤ count) }

@@ -221,7 +221,7 @@ fn bringing_of_word(word: &str) -> Option<Bringing>
 }
 
 impl<'a> Statement<'a> {
-    /// The statement of a line, if it has one, and its first word.
+    /// The statement of a line, if it has one, and its first word. Refused where no statement is spelt by the line's words.
     pub fn of(mut words: StatementWords<'a>) -> Result<Option<(Word<'a>, Statement<'a>)>, Complaint>
         ensures read { IfOk result (IsRead words.entry.words.rest.now) }
         ensures refused { IfErr result (λ _. ¬ (IsReadable words.entry.words.rest.now)) }
