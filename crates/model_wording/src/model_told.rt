@@ -37,7 +37,7 @@ pub struct ModelLine<'a>(pub ModelTold<'a>);
 #[derive(Clone, Copy)]
 struct OverTold<'a>(Option<&'a str>);
 
-// A name and the place of its delivery, with the line.
+// A name and the module of its delivery.
 #[derive(Clone, Copy)]
 struct PlaceAt<'a>(DeliveryStatement<'a>);
 
@@ -95,7 +95,7 @@ struct PlacesWords<'a>(ModelAccount<'a>);
 pub struct ModelAccountLine<'a>(pub ModelAccount<'a>);
 
 // The model below the top of a pile, if one stands there, and how many models the pile has.
-fn below_of(pile: Pile) -> (Option<usize>, usize)
+fn below_and_depth(pile: Pile) -> (Option<usize>, usize)
     ensures { result ≡ (below_of pile, depth_of pile) }
 {
     match pile {
@@ -110,7 +110,7 @@ impl<'a> ModelTold<'a> {
     pub fn of(models: &[Model<'a>], model: &Model<'a>) -> ModelTold<'a>
         ensures { result ≡ told_of models.now model.now }
     {
-        let (below, depth) = below_of(model.pile);
+        let (below, depth) = below_and_depth(model.pile);
         let over = match below {
             Some(below) => models.get(below).map(|model| model.name),
             None => None,
