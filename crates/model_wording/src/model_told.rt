@@ -2,7 +2,7 @@
 ghost use Rattle.std.specs.Prelude.{◌≡◌, Some, length, filter};
 ghost use Rattle.cuts.specs.Reached.{said};
 ghost use Rattle.model_wording.specs.Models.{below_of, depth_of, told_of, is_refused, account_of};
-ghost use Rattle.model_wording.specs.ModelTold.{over_told, over_word, model_told, model_line, order_told, order_word, place_at, differed_told, parted_told, comparison_told, statement_words, comparison_words, orders_line, account_words, places_words, account_line};
+ghost use Rattle.model_wording.specs.ModelTold.{over_told, over_word, model_told, model_line, order_told, order_word, place_at, differed_told, parted_told, comparison_told, statement_words, comparison_words, orders_line, account_words, places_words, account_line, account_told};
 
 use crate::comparison::Comparison;
 use cuts::asked::Answered;
@@ -327,6 +327,8 @@ impl<'a> fmt::Display for OrdersLine<'a> {
 }
 
 impl<'a> fmt::Display for ModelAccount<'a> {
+    ghost output = { λ a. Some (account_told a) };
+
     fn fmt<W: fmt::Write>(&self, f: &mut fmt::Formatter<W>) -> fmt::Result {
         let model = self.model;
         let asked = self.asked;
@@ -350,7 +352,10 @@ impl<'a> fmt::Display for ModelAccount<'a> {
             f,
             "    deliveries made     {changed:>8}\n    changed nothing     {unchanged:>8}\n    deliveries refused  {not_taken:>8}\n"
         )?;
-        write!(f, "    own places          {places:>8} of 64\n")
+        write!(
+            f,
+            "    own places          {places:>8} of {MOST_OWN_PLACES}\n"
+        )
     }
 }
 
