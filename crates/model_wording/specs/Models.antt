@@ -15,6 +15,7 @@ use Rattle.firmware.specs.Piles.{parts_of}
 use Rattle.wording.specs.Outcomes.{counts_of}
 use Rattle.model_wording.specs.declared.model_told.ModelAccount.{ModelAccount}
 use Rattle.model_wording.specs.declared.model_told.ModelTold.{ModelTold}
+use Rattle.model_wording.specs.declared.model_told.TheConstants.{MOST_OWN_PLACES}
 
 -- the model right below the highest one; none where that stands on the base
 abbrev pub below_of : Pile → Option ℕ
@@ -33,9 +34,6 @@ told_of ms m = record { name = m.name; over = option_map (λ b. b.name) (option_
 abbrev pub is_refused : Answered → Bool
 is_refused a = is_err a.result
 
-abbrev pub most_own_places : ℕ
-most_own_places = 64
-
 -- what the paths were answered, which items have a reason, what came of the deliveries, and how many places they took
 abbrev pub account_of : Bor (List ℕ) → List Answered → (ModuleDefId → Option Reason) → List ModuleDefId → List Outcome → ℕ → ModelAccount
 account_of model answers reason items outcomes left = record {
@@ -44,5 +42,5 @@ account_of model answers reason items outcomes left = record {
   refused = length (filter is_refused answers);
   items = record { kept = length (filter (λ i. is_kept (reason i)) items); cut = length (filter (λ i. is_cut (reason i)) items) };
   deliveries = counts_of outcomes;
-  places = most_own_places - left;
+  places = MOST_OWN_PLACES - left;
 }

@@ -2,7 +2,7 @@
 ghost use Rattle.std.specs.Prelude.{◌≡◌, Some, length, filter};
 ghost use Rattle.cuts.specs.Reached.{said};
 ghost use Rattle.model_wording.specs.Models.{below_of, depth_of, told_of, is_refused, account_of};
-ghost use Rattle.model_wording.specs.ModelTold.{over_told, over_word, model_told, model_line, order_told, order_word, place_at, differed_told, parted_told, comparison_told, statement_words, comparison_words, orders_line, account_words, places_words, account_line};
+ghost use Rattle.model_wording.specs.ModelTold.{over_told, over_word, model_told, model_line, order_told, order_word, place_at, differed_told, parted_told, comparison_told, statement_words, comparison_words, orders_line, account_words, places_words, account_line, account_told};
 
 use crate::comparison::Comparison;
 use cuts::asked::Answered;
@@ -37,7 +37,7 @@ pub struct ModelLine<'a>(pub ModelTold<'a>);
 #[derive(Clone, Copy)]
 struct OverTold<'a>(Option<&'a str>);
 
-// A name and the place of its delivery, with the line.
+// A name and the module of its delivery.
 #[derive(Clone, Copy)]
 struct PlaceAt<'a>(DeliveryStatement<'a>);
 
@@ -95,7 +95,7 @@ struct PlacesWords<'a>(ModelAccount<'a>);
 pub struct ModelAccountLine<'a>(pub ModelAccount<'a>);
 
 // The model below the top of a pile, if one stands there, and how many models the pile has.
-fn below_of(pile: Pile) -> (Option<usize>, usize)
+fn below_and_depth(pile: Pile) -> (Option<usize>, usize)
     ensures { result ≡ (below_of pile, depth_of pile) }
 {
     match pile {
@@ -110,7 +110,7 @@ impl<'a> ModelTold<'a> {
     pub fn of(models: &[Model<'a>], model: &Model<'a>) -> ModelTold<'a>
         ensures { result ≡ told_of models.now model.now }
     {
-        let (below, depth) = below_of(model.pile);
+        let (below, depth) = below_and_depth(model.pile);
         let over = match below {
             Some(below) => models.get(below).map(|model| model.name),
             None => None,
@@ -327,6 +327,8 @@ impl<'a> fmt::Display for OrdersLine<'a> {
 }
 
 impl<'a> fmt::Display for ModelAccount<'a> {
+    ghost output = { λ a. Some (account_told a) };
+
     fn fmt<W: fmt::Write>(&self, f: &mut fmt::Formatter<W>) -> fmt::Result {
         let model = self.model;
         let asked = self.asked;
@@ -350,7 +352,10 @@ impl<'a> fmt::Display for ModelAccount<'a> {
             f,
             "    deliveries made     {changed:>8}\n    changed nothing     {unchanged:>8}\n    deliveries refused  {not_taken:>8}\n"
         )?;
-        write!(f, "    own places          {places:>8} of 64\n")
+        write!(
+            f,
+            "    own places          {places:>8} of {MOST_OWN_PLACES}\n"
+        )
     }
 }
 
