@@ -1,3 +1,2 @@
-pub mod Aligned
 pub mod Filtered
 pub mod Joined

@@ -1,5 +1,5 @@
 -- What is written of a model.
-use Rattle.std.specs.Prelude.{ℕ, ◌-◌, List, [], ◌∷◌, ◌++◌, length, replicate, Option, Some, None, codes, decimal}
+use Rattle.std.specs.Prelude.{ℕ, List, [], ◌∷◌, ◌++◌, Option, Some, None, codes, decimal}
 use Rattle.std.specs.Borrow.{Bor}
 use Rattle.std.specs.List.{concat}
 use Rattle.cuts.specs.declared.verdict.Tally.{Tally}
@@ -7,8 +7,10 @@ use Rattle.firmware.specs.declared.file.DeliveryStatement.{DeliveryStatement}
 use Rattle.orders.specs.declared.order.Order.{Order}
 use Rattle.orders.specs.declared.order.Order.TheVariants.{NamesFirst, GlobsFirst}
 use Rattle.wording.specs.declared.counts.DeliveryCounts.{DeliveryCounts}
+use Rattle.wording.specs.Aligned.{aligned}
 use Rattle.wording.specs.Outcomes.{counts_text}
 use Rattle.wording.specs.Places.{delivery_told}
+use Rattle.wording.specs.Told.{deliveries_told}
 use Rattle.model_wording.specs.declared.comparison.Comparison.{Comparison}
 use Rattle.model_wording.specs.declared.comparison.Comparison.TheVariants.{Alone, Agree, Parted}
 use Rattle.model_wording.specs.declared.model_told.ModelAccount.{ModelAccount}
@@ -78,10 +80,6 @@ places_words d places = counts_text d ++ codes " " ++ decimal places
 abbrev pub account_line : List ℕ → ℕ → ℕ → Tally → DeliveryCounts → ℕ → List ℕ
 account_line model asked denied t d places = codes "model-account " ++ model ++ codes " " ++ account_words asked denied t ++ codes " " ++ places_words d places
 
--- a number that stands right in eight columns; a longer one stands whole
-unfoldable pub aligned : ℕ → List ℕ
-aligned n = replicate (8 - length (decimal n)) 32 ++ decimal n
-
 abbrev pub paths_told : ModelAccount → List ℕ
 paths_told a = concat (
     codes "\naccount of model " ∷ a.model.now ∷ codes "\n    paths asked         " ∷ aligned a.asked
@@ -91,12 +89,6 @@ abbrev pub items_told : Tally → List ℕ
 items_told t = concat (
     codes "    items kept          " ∷ aligned t.kept
     ∷ codes "\n    items cut           " ∷ aligned t.cut ∷ codes "\n" ∷ [])
-
-abbrev pub deliveries_told : DeliveryCounts → List ℕ
-deliveries_told d = concat (
-    codes "    deliveries made     " ∷ aligned d.changed
-    ∷ codes "\n    changed nothing     " ∷ aligned d.unchanged
-    ∷ codes "\n    deliveries refused  " ∷ aligned d.refused ∷ codes "\n" ∷ [])
 
 abbrev pub places_told : ℕ → List ℕ
 places_told n = concat (codes "    own places          " ∷ aligned n ∷ codes " of " ∷ decimal MOST_OWN_PLACES ∷ codes "\n" ∷ [])

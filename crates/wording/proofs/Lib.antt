@@ -1,2 +1,3 @@
+pub mod Aligned
 pub mod Modules
 pub mod Ranges

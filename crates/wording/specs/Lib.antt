@@ -4,5 +4,6 @@ pub mod Counts
 pub mod Outcomes
 pub mod Holders
 pub mod Places
+pub mod Aligned
 pub mod Told
 pub mod Answers

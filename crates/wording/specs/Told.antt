@@ -1,12 +1,14 @@
 -- What is written of an item, of who sees it, and of the account.
-use Rattle.std.specs.Prelude.{ℕ, ◌/◌, ◌%◌, ◌==◌, nat_lt, if◌then◌else◌, List, [], ◌++◌, Option, Some, None, codes, decimal, vec_items}
+use Rattle.std.specs.Prelude.{ℕ, ◌/◌, ◌%◌, ◌==◌, nat_lt, if◌then◌else◌, List, [], ◌∷◌, ◌++◌, Option, Some, None, codes, decimal, vec_items}
 use Rattle.std.specs.Global.{Vec}
+use Rattle.std.specs.List.{concat}
 use Rattle.hir_def.specs.declared.ModuleId.{ModuleId}
 use Rattle.hir_def.specs.declared.fault.FaultCode.{FaultCode}
 use Rattle.hir_def.specs.FaultTexts.{code_text}
 use Rattle.firmware.specs.declared.file.Declared.{Declared}
 use Rattle.entries.specs.declared.account.Account.{Account}
 use Rattle.wording.specs.declared.counts.DeliveryCounts.{DeliveryCounts}
+use Rattle.wording.specs.Aligned.{aligned}
 use Rattle.wording.specs.Outcomes.{counts_text}
 use Rattle.wording.specs.declared.range.Range.{Range}
 use Rattle.wording.specs.declared.range.Range.TheVariants.{All, Crate, Inside}
@@ -49,6 +51,28 @@ seen_line names d s =
 
 abbrev pub refused_line : Declared → FaultCode → List ℕ
 refused_line d c = codes "refused " ++ d.name.now ++ codes " " ++ d.module.now ++ codes " " ++ code_text c
+
+abbrev pub asked_told : ℕ → ℕ → ℕ → List ℕ
+asked_told items modules seen = concat (
+    codes "\naccount\n    items               " ∷ aligned items
+    ∷ codes "\n    modules             " ∷ aligned modules
+    ∷ codes "\n    pairs seen          " ∷ aligned seen ∷ codes "\n" ∷ [])
+
+abbrev pub rest_told : ℕ → ℕ → ℕ → List ℕ
+rest_told hidden refused paths = concat (
+    codes "    pairs not seen      " ∷ aligned hidden
+    ∷ codes "\n    items refused       " ∷ aligned refused
+    ∷ codes "\n    paths               " ∷ aligned paths ∷ codes "\n" ∷ [])
+
+abbrev pub deliveries_told : DeliveryCounts → List ℕ
+deliveries_told d = concat (
+    codes "    deliveries made     " ∷ aligned d.changed
+    ∷ codes "\n    changed nothing     " ∷ aligned d.unchanged
+    ∷ codes "\n    deliveries refused  " ∷ aligned d.refused ∷ codes "\n" ∷ [])
+
+-- the account for people
+abbrev pub account_told : Account → ℕ → ℕ → DeliveryCounts → List ℕ
+account_told a modules paths d = asked_told a.items modules a.seen ++ rest_told a.hidden a.refused paths ++ deliveries_told d
 
 abbrev pub pair : ℕ → ℕ → List ℕ
 pair a b = decimal a ++ codes " " ++ decimal b

@@ -1,7 +1,7 @@
 // What is written of an item and of the account: for people, and as lines of words for programs.
 ghost use Rattle.std.specs.Prelude.{Some};
 ghost use Rattle.wording.specs.Shown.{held};
-ghost use Rattle.wording.specs.Told.{grouped, range_told, item_told, seen_told, seen_line, refused_line, pair, account_line};
+ghost use Rattle.wording.specs.Told.{grouped, range_told, item_told, seen_told, seen_line, refused_line, pair, account_line, account_told};
 
 use crate::counts::DeliveryCounts;
 use crate::names::{ModuleText, ModulesText, VisibilityText};
@@ -183,6 +183,8 @@ impl<'a> fmt::Display for RefusedLine<'a> {
 }
 
 impl fmt::Display for AccountTold {
+    ghost output = { λ a. Some (account_told a.account a.modules a.paths a.deliveries) };
+
     fn fmt<W: fmt::Write>(&self, f: &mut fmt::Formatter<W>) -> fmt::Result {
         let items = self.account.items;
         let modules = self.modules;

@@ -1,7 +1,7 @@
 use Rattle.std.proofs.Common.{rules}
 use Rattle.std.proofs.Output.{has_written_append}
 use Rattle.std.specs.Prelude.{IsOk}
-use Rattle.model_wording.proofs.Aligned.{eight_columns}
+use Rattle.wording.proofs.Aligned.{eight_columns}
 use Rattle.model_wording.proofs.model_told.ModelAccountDisplay.fmt.Goals as goal
 
 pub returns-clause-writes : goal.returns-clause-writes
