@@ -216,5 +216,17 @@ fn several_files(rt: HostRuntime) -> Result<(), Fail> {
         out.as_str()
             .starts_with("g.feq:1:6: the statement ends here\n")
     );
+    // The first file that is not taken is told, whatever is wrong with it.
+    let (out, reported) = written(
+        rt.alloc(),
+        &[("f.feq", b"crate a 2021\npath a::b\n"), ("g.feq", b"crate")],
+        lines,
+        TABLE,
+    )?;
+    assert!(rt; !reported);
+    assert!(rt;
+        out.as_str()
+            .starts_with("f.feq:2:9: no statement declares this name\n")
+    );
     Ok(())
 }

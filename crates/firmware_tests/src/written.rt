@@ -45,7 +45,12 @@ pub(crate) fn written(
     let files = files.as_slice();
     match report_files(alloc, &mut out, &mut progress, files, style, lending) {
         Ok(()) => Ok((String::from_utf8_lossy(alloc, out.as_slice())?, true)),
-        Err(ReportError::Refused(located)) => Ok((format!(in alloc; "{located}")?, false)),
+        Err(ReportError::Refused(located)) => {
+            if !out.is_empty() || !progress.is_empty() {
+                return Err(Fail::from("something was written of files that are refused"));
+            }
+            Ok((format!(in alloc; "{located}")?, false))
+        }
         Err(_) => Err(Fail::from("out of memory")),
     }
 }

@@ -1,6 +1,8 @@
 // Reports on several files: all of them are taken before anything is written.
-ghost use Rattle.std.specs.Prelude.{◌≡◌};
+ghost use Rattle.std.specs.Prelude.{◌≡◌, IfErr, IfOk, alloc_error, vec_items};
+ghost use Rattle.std.specs.List.{All};
 ghost use Rattle.model_reports.specs.declared.files.ReportError.TheVariants.{Memory, Write};
+ghost use Rattle.model_reports.specs.Files.{AreNotTaken, AreTaken, BeforeWriting, FirstRefused, IfNotTaken, IsRead, IsTaken, OnceWriting, TellsOf, files_of};
 
 use crate::indexed::{Lending, write_indexed};
 use file_reader::reader::read_firmware;
@@ -20,11 +22,19 @@ pub struct File<'a> {
     pub text: Vec<u8>,
 }
 
+// A file, and what its statements tell.
+#[derive(Drop)]
+struct ReadFile<'a> {
+    file: &'a File<'a>,
+    firmware: Firmware<'a>,
+}
+
 /// Why there is no report, or no whole one.
 #[derive(Drop)]
 pub enum ReportError<'a> {
     /// A file is not taken; nothing was written.
     Refused(Located<'a>),
+    /// Nothing was written.
     Memory(AllocError),
     /// The report could not be written.
     Write(io::Error),
@@ -39,6 +49,8 @@ impl<'a> From<AllocError> for ReportError<'a> {
 }
 
 impl<'a, T: Drop> From<AllocFailed<T>> for ReportError<'a> {
+    ghost from_gives = { λ _ r. r ≡ Memory alloc_error };
+
     fn from(e: AllocFailed<T>) -> ReportError<'a> {
         ReportError::Memory(AllocError::from(e))
     }
@@ -52,7 +64,9 @@ impl<'a> From<io::Error> for ReportError<'a> {
     }
 }
 
-fn error_of<'a>(file: &'a File<'a>, failure: Failure<Trouble>) -> ReportError<'a> {
+fn error_of<'a>(file: &'a File<'a>, failure: Failure<Trouble>) -> ReportError<'a>
+    ensures { TellsOf file.entry.now failure result }
+{
     match failure {
         Failure::Refused(trouble) => ReportError::Refused(Located {
             path: file.path,
@@ -63,34 +77,42 @@ fn error_of<'a>(file: &'a File<'a>, failure: Failure<Trouble>) -> ReportError<'a
     }
 }
 
-fn read_all<'a>(
-    alloc: Global,
-    files: &'a [File<'a>],
-) -> Result<Vec<Firmware<'a>>, ReportError<'a>> {
-    let mut read = Vec::new(alloc);
-    for file in files {
-        match read_firmware(alloc, file.text.as_slice()) {
-            Ok(firmware) => read.push(firmware)?,
-            Err(failure) => return Err(error_of(file, failure)),
-        }
-    }
-    Ok(read)
-}
-
-// Of each file what it declares and whether that is taken. Files and firmwares stand side by side.
+// Of each file what it declares and whether that is taken.
 fn survey_all<'f, 'a>(
     alloc: Global,
-    files: &'a [File<'a>],
-    read: &'f [Firmware<'a>],
-) -> Result<Vec<Survey<'f, 'a>>, ReportError<'a>> {
+    read: &'f [ReadFile<'a>],
+) -> Result<Vec<Survey<'f, 'a>>, ReportError<'a>>
+    requires { All IsRead read.now }
+    ensures taken { IfOk result (λ v. AreTaken read.entry.now (vec_items v)) }
+    ensures refused { IfErr result (AreNotTaken (files_of read.entry.now)) }
+{
     let mut surveys = Vec::new(alloc);
-    for (firmware, file) in read.iter().zip(files) {
-        match Survey::of(alloc, firmware) {
+    for one in read {
+        match Survey::of(alloc, &one.firmware) {
             Ok(survey) => surveys.push(survey)?,
-            Err(failure) => return Err(error_of(file, failure)),
+            Err(failure) => return Err(error_of(one.file, failure)),
         }
     }
     Ok(surveys)
+}
+
+// Where a file is not read, those before it are surveyed first: of all files the first that is not taken is told.
+fn read_all<'a>(alloc: Global, files: &'a [File<'a>]) -> Result<Vec<ReadFile<'a>>, ReportError<'a>>
+    ensures each { IfOk result (λ v. files_of (vec_items v) ≡ files.entry.now) }
+    ensures read { IfOk result (λ v. All IsRead (vec_items v)) }
+    ensures refused { IfErr result (AreNotTaken files.entry.now) }
+{
+    let mut read = Vec::new(alloc);
+    for file in files {
+        match read_firmware(alloc, file.text.as_slice()) {
+            Ok(firmware) => read.push(ReadFile { file, firmware })?,
+            Err(failure) => {
+                survey_all(alloc, read.as_slice())?;
+                return Err(error_of(file, failure));
+            }
+        }
+    }
+    Ok(read)
 }
 
 // Each file is reported by itself, under a heading where there are several.
@@ -125,9 +147,13 @@ pub fn report_files<'a, W: io::Write, E: io::Write>(
     files: &'a [File<'a>],
     style: Style,
     lending: Lending,
-) -> Result<(), ReportError<'a>> {
+) -> Result<(), ReportError<'a>>
+    ensures taken { OnceWriting result (All IsTaken files.entry.now) }
+    ensures refused { IfErr result (IfNotTaken (FirstRefused files.entry.now)) }
+    ensures untouched { IfErr result (BeforeWriting ((w.new ≡ w.old) × (progress.new ≡ progress.old))) }
+{
     let read = read_all(alloc, files)?;
-    let surveys = survey_all(alloc, files, read.as_slice())?;
+    let surveys = survey_all(alloc, read.as_slice())?;
     write_all(
         alloc,
         w,

@@ -1,5 +1,5 @@
 // The index to which the deliveries of a file are made: its make, and the rows that it is lent.
-ghost use Rattle.std.specs.Prelude.{◌≡◌};
+ghost use Rattle.std.specs.Prelude.{◌≡◌, is_ok};
 ghost use Rattle.model_reports.specs.Results.{rows_for};
 
 use crate::models::write_models;
@@ -38,7 +38,9 @@ impl Lending {
 }
 
 // The tables of a file that is taken are loaded once already, so nothing is refused here.
-fn loaded(answer: Result<(), Failure<Fault>>) -> io::Result<()> {
+fn loaded(answer: Result<(), Failure<Fault>>) -> io::Result<()>
+    ensures { is_ok result ≡ is_ok answer }
+{
     match answer {
         Ok(()) => Ok(()),
         Err(Failure::Refused(_)) => Err(io::Error::from(io::ErrorKind::InvalidData)),
