@@ -1,4 +1,5 @@
 pub mod Accepted
+pub mod Rules
 pub mod Sound
 pub mod Taking
 pub mod Turns

@@ -23,10 +23,10 @@ use Rattle.index_tables.specs.declared.keys.MapName.{MapName}
 use Rattle.index_tables.specs.declared.keys.ModuleName.{ModuleName}
 use Rattle.index_tables.specs.declared.keys.EnumName.{EnumName}
 use Rattle.index_tables.specs.declared.loaded_tables.LoadedTables.{LoadedTables}
-use Rattle.index_tables.specs.RowTests.{row_tests, first_bad, fitting, apart, GoodRows}
+use Rattle.index_tables.specs.RowTests.{row_tests, first_bad, fitting, apart, RowsPass}
 use Rattle.index_tables.specs.Numbers.{extern_prelude_in, macro_use_in, prelude_in, legacy_in, variant_in}
 use Rattle.index_tables.specs.IndexRows.{IndexRows, counts_of, data_from}
-use Rattle.index_tables.specs.Loading.{GoodIndex}
+use Rattle.index_tables.specs.Loading.{PassesTests}
 use Rattle.index_tables.specs.LoadedTables.{data_of, rows_in}
 
 and_intro : (a b : Bool) → a ≡ true → b ≡ true → (a && b) ≡ true
@@ -56,13 +56,13 @@ module _ {K V : Type 0} (eq : K → K → Bool) (exist : K → V → Bool) (usab
       let rest = few_rows (earlier ++ r ∷ []) rows (n + 1) (omega (arith, room, one)) p.1 in
       omega (arith, rest, one)
 
-pub good_rows : {K V : Type 0} (eq : K → K → Bool) (exist : K → V → Bool) (rows taken : List (Row K V)) (n : ℕ) → (first_bad (row_tests eq exist most_rows [] rows) n ≡ None) × (taken ≡ rows) → GoodRows eq exist taken
+pub good_rows : {K V : Type 0} (eq : K → K → Bool) (exist : K → V → Bool) (rows taken : List (Row K V)) (n : ℕ) → (first_bad (row_tests eq exist most_rows [] rows) n ≡ None) × (taken ≡ rows) → RowsPass eq exist taken
 good_rows eq exist rows taken n h =
     let p = parts eq exist most_rows [] rows n h.0 in
     let within = few_rows eq exist most_rows [] rows n (omega arith) h.0 in
     let few : length rows ≤ most_rows = omega (arith, within) in
-    let g : GoodRows eq exist rows = record { numbers = p.0; keys = p.1; few = few } in
-    subst (GoodRows eq exist) (sym h.1) g
+    let g : RowsPass eq exist rows = record { numbers = p.0; keys = p.1; few = few } in
+    subst (RowsPass eq exist) (sym h.1) g
 
 -- what is found of a key passes the test that all rows pass
 module _ {K V : Type 0} (eq : K → K → Bool) (exact : (a b : K) → eq a b ≡ true → a ≡ b) (exist : K → V → Bool) where
@@ -91,8 +91,8 @@ exact_module_name a b e = (module_name_law a b).0 e
 exact_enum_name : (a b : EnumName) → same_enum_name.it a b ≡ true → a ≡ b
 exact_enum_name a b e = (enum_name_law a b).0 e
 
--- rows that keep the rules tell only numbers that exist
-pub sound_data : (r : IndexRows) → GoodIndex r → SoundData (data_from r)
+-- rows that pass their tests tell only numbers that exist
+pub sound_data : (r : IndexRows) → PassesTests r → SoundData (data_from r)
 sound_data r good = record {
   few_names = good.few_names;
   extern_prelude = λ c n e is.

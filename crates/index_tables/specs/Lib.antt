@@ -2,4 +2,5 @@ pub mod IndexRows
 pub mod Loading
 pub mod LoadedTables
 pub mod Numbers
+pub mod RowRules
 pub mod RowTests

@@ -15,9 +15,10 @@ use Rattle.index_tables.specs.contracts.keys.CrateNamePartialEq.TheImpl.{eq-valu
 use Rattle.index_tables.specs.contracts.keys.MapNamePartialEq.TheImpl.{eq-value as same_map_name}
 use Rattle.index_tables.specs.contracts.keys.ModuleNamePartialEq.TheImpl.{eq-value as same_module_name}
 use Rattle.index_tables.specs.contracts.keys.EnumNamePartialEq.TheImpl.{eq-value as same_enum_name}
-use Rattle.index_tables.specs.IndexRows.{IndexRows, counts_of}
+use Rattle.index_tables.specs.IndexRows.{IndexRows, counts_of, data_from}
+use Rattle.index_tables.specs.RowRules.{GoodRows, ExternPreludeExists, MacroUseExists, PreludeExists, LegacyExists, VariantExists}
 use Rattle.index_tables.specs.Numbers.{extern_prelude_in, macro_use_in, prelude_in, legacy_in, variant_in}
-use Rattle.index_tables.specs.RowTests.{row_tests, as_many, first_bad, IsBadRow, GoodRows}
+use Rattle.index_tables.specs.RowTests.{row_tests, as_many, first_bad, IsBadRow, RowsPass}
 
 abbrev pub table_tests : {K V : Type 0} → (K → K → Bool) → (K → V → Bool) → List (Row K V) → List Bool
 table_tests eq exist rows = row_tests eq exist most_rows [] rows
@@ -54,20 +55,27 @@ AnswersLoad r (Err e) = IfRefused (λ f. LoadsIndex r (Err f)) e
 abbrev pub BeginsGood : IndexRows → Type 0
 BeginsGood r = Loads r.tree (Ok tt) × (nat_le r.names 65536 ≡ true)
 
--- rows that keep the rules: every number exists, no key has two rows, and there are no more than a table uses
-pub record GoodIndex (r : IndexRows) : Type 0 where
+-- the rows of an index pass their tests, taken kind by kind: this form computes, and every value of `LoadedTables` has it
+pub record PassesTests (r : IndexRows) : Type 0 where
   pub few_names : r.names ≤ 65536
-  pub extern_prelude : GoodRows same_crate_name.it (extern_prelude_in (counts_of r)) r.extern_prelude
-  pub macro_use : GoodRows same_map_name.it (macro_use_in (counts_of r)) r.macro_use
-  pub preludes : GoodRows same_map.it (prelude_in (counts_of r)) r.preludes
-  pub legacy : GoodRows same_module_name.it (legacy_in (counts_of r)) r.legacy
-  pub variants : GoodRows same_enum_name.it (variant_in (counts_of r)) r.variants
+  pub extern_prelude : RowsPass same_crate_name.it (extern_prelude_in (counts_of r)) r.extern_prelude
+  pub macro_use : RowsPass same_map_name.it (macro_use_in (counts_of r)) r.macro_use
+  pub preludes : RowsPass same_map.it (prelude_in (counts_of r)) r.preludes
+  pub legacy : RowsPass same_module_name.it (legacy_in (counts_of r)) r.legacy
+  pub variants : RowsPass same_enum_name.it (variant_in (counts_of r)) r.variants
   pub styles : length r.styles ≡ r.macros
 
--- tables that keep the rules: those of a tree, and those of the rows
+-- tables that keep the rules: those of a tree; names are few; what each row names exists, no key has two rows, and there are no
+-- more than a table uses; and there are as many call styles as macros
 pub record GoodTables (r : IndexRows) : Type 0 where
   pub tree : Rules (tree_of r.tree) row_number
-  pub index : GoodIndex r
+  pub few_names : r.names ≤ 65536
+  pub extern_prelude : GoodRows (ExternPreludeExists (data_from r)) r.extern_prelude
+  pub macro_use : GoodRows (MacroUseExists (data_from r)) r.macro_use
+  pub preludes : GoodRows (PreludeExists (data_from r)) r.preludes
+  pub legacy : GoodRows (LegacyExists (data_from r)) r.legacy
+  pub variants : GoodRows (VariantExists (data_from r)) r.variants
+  pub styles : length r.styles ≡ r.macros
 
 -- a load accepts exactly the tables that keep the rules; one that wants memory tells nothing of them
 abbrev pub AcceptsGood : {T : Type 0} → IndexRows → Result T (Failure Fault) → Type 0

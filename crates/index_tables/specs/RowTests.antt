@@ -52,8 +52,8 @@ abbrev pub apart : {K V : Type 0} → (K → K → Bool) → List (Row K V) → 
 apart eq earlier [] = true
 apart eq earlier (r ∷ rows) = not (is_some (find eq earlier r.key)) && apart eq (earlier ++ r ∷ []) rows
 
--- the rows of a table that keeps the rules
-pub record GoodRows {K V : Type 0} (eq : K → K → Bool) (exist : K → V → Bool) (rows : List (Row K V)) : Type 0 where
+-- the rows of a table pass their tests, taken kind by kind
+pub record RowsPass {K V : Type 0} (eq : K → K → Bool) (exist : K → V → Bool) (rows : List (Row K V)) : Type 0 where
   pub numbers : fitting exist rows ≡ true
   pub keys : apart eq [] rows ≡ true
   pub few : length rows ≤ most_rows

@@ -1,7 +1,7 @@
 // A table comes in row by row, up to the first row that is not good.
 ghost use Rattle.std.specs.Prelude.{◌≡◌, ◌<◌, ◌^◌, [], length, IfOk, OnOk};
 ghost use Rattle.keyed.specs.Entries.{most_rows};
-ghost use Rattle.index_tables.specs.RowTests.{row_tests, AnswersTests, GoodRows};
+ghost use Rattle.index_tables.specs.RowTests.{row_tests, AnswersTests, RowsPass};
 
 use crate::numbers::{Counts, NumbersExist};
 use hir_def::fault::{Failure, Fault, IndexFault};
@@ -22,7 +22,7 @@ pub(crate) fn load_table<'a, K: NumbersExist<V>, V: Copy, S: BuildHasher + Drop>
     requires { from < 2 ^ 40 }
     ensures few { OnOk result (length rows.now < 2 ^ 32) }
     ensures tested { AnswersTests (row_tests K.eq (K.exist counts.now) most_rows [] rows.now) from rows.now result }
-    ensures good { IfOk result (λ t. GoodRows K.eq (K.exist counts.now) t.entries) }
+    ensures good { IfOk result (λ t. RowsPass K.eq (K.exist counts.now) t.entries) }
 {
     let mut table = Table::new(alloc, hash_builder, rows)?;
     for i in 0..rows.len() {

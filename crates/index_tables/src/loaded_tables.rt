@@ -6,7 +6,7 @@ ghost use Rattle.nameres.specs.Rows.{rows_of};
 ghost use Rattle.nameres.specs.Tabled.{rows_in as tree_rows_in};
 ghost use Rattle.index_tables.specs.RowTests.{AnswersCount};
 ghost use Rattle.index_tables.specs.IndexRows.{lent_rows, counts_of};
-ghost use Rattle.index_tables.specs.Loading.{AnswersTree, AnswersLoad, BeginsGood, GoodIndex, AcceptsGood};
+ghost use Rattle.index_tables.specs.Loading.{AnswersTree, AnswersLoad, BeginsGood, PassesTests, AcceptsGood};
 
 use crate::keys::{CrateName, EnumName, MapName, ModuleName};
 use crate::load_table::load_table;
@@ -57,7 +57,7 @@ pub struct LoadedTables<'a, S: BuildHasher> {
     variants: Table<&'a [Row<EnumName, EnumVariant>], S>,
     styles: &'a [CallStyles],
     hash_builder: S,
-    pub ghost good: { GoodIndex (record {
+    pub ghost good: { PassesTests (record {
       tree = tree_rows_in tree;
       names = names;
       enums = enums;

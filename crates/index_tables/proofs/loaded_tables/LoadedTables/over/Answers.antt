@@ -10,7 +10,7 @@ use Rattle.index_tables.specs.contracts.keys.ModuleNamePartialEq.TheImpl.{eq-val
 use Rattle.index_tables.specs.contracts.keys.EnumNamePartialEq.TheImpl.{eq-value as same_enum_name}
 use Rattle.index_tables.specs.Numbers.{extern_prelude_in, macro_use_in, prelude_in, legacy_in, variant_in}
 use Rattle.index_tables.specs.IndexRows.{lent_rows, counts_of}
-use Rattle.index_tables.specs.RowTests.{GoodRows}
+use Rattle.index_tables.specs.RowTests.{RowsPass}
 use Rattle.index_tables.proofs.Turns.{few_of, as_many_is, refuses, refuses_next, at_four, at_five, at_six, fours, fives, sixes}
 use Rattle.index_tables.proofs.loaded_tables.LoadedTables.over.Goals as goal
 
@@ -61,11 +61,11 @@ invariant_of-result g c =
     record {
       good = record {
         few_names = leb-true _ _ (few_of _ _ _ c.in_ok-check_names.ensures);
-        extern_prelude = subst (λ m. GoodRows same_crate_name.it (extern_prelude_in m) c.in_ok-extern_prelude.extern_prelude.entries) k c.in_ok-extern_prelude.ensures.good;
-        macro_use = subst (λ m. GoodRows same_map_name.it (macro_use_in m) c.in_ok-macro_use.macro_use.entries) k c.in_ok-macro_use.ensures.good;
-        preludes = subst (λ m. GoodRows same_map.it (prelude_in m) c.in_ok-preludes.preludes.entries) k c.in_ok-preludes.ensures.good;
-        legacy = subst (λ m. GoodRows same_module_name.it (legacy_in m) c.in_ok-legacy.legacy.entries) k c.in_ok-legacy.ensures.good;
-        variants = subst (λ m. GoodRows same_enum_name.it (variant_in m) c.in_ok-variants.variants.entries) k c.in_ok-variants.ensures.good;
+        extern_prelude = subst (λ m. RowsPass same_crate_name.it (extern_prelude_in m) c.in_ok-extern_prelude.extern_prelude.entries) k c.in_ok-extern_prelude.ensures.good;
+        macro_use = subst (λ m. RowsPass same_map_name.it (macro_use_in m) c.in_ok-macro_use.macro_use.entries) k c.in_ok-macro_use.ensures.good;
+        preludes = subst (λ m. RowsPass same_map.it (prelude_in m) c.in_ok-preludes.preludes.entries) k c.in_ok-preludes.ensures.good;
+        legacy = subst (λ m. RowsPass same_module_name.it (legacy_in m) c.in_ok-legacy.legacy.entries) k c.in_ok-legacy.ensures.good;
+        variants = subst (λ m. RowsPass same_enum_name.it (variant_in m) c.in_ok-variants.variants.entries) k c.in_ok-variants.ensures.good;
         styles = as_many_is _ _ _ c.in_ok-check_styles.ensures;
       };
     }
