@@ -1,7 +1,8 @@
 -- The laws in the small tree.
-use Rattle.std.proofs.Common.{◌≡◌, ℕ, zero, suc, ◌<◌, ◌≤◌, Bool, true, false, if◌then◌else◌, ◌&&◌, ◌==◌, List, [], ◌∷◌, ◌++◌, slice_index_or, Option, Some, None, Ok, inl, inr, ◌↔◌, refl, sym, ap, subst, ◌∙◌, arith}
-use Rattle.std.proofs.lemmas.Bool.{eqb-true, false≢true}
+use Rattle.std.proofs.Common.{◌≡◌, ℕ, zero, suc, ◌<◌, ◌≤◌, Bool, true, false, if◌then◌else◌, ◌&&◌, ◌==◌, nat_lt, List, [], ◌∷◌, ◌++◌, slice_index_or, Option, Some, None, Ok, inl, inr, ◌↔◌, refl, sym, ap, subst, ◌∙◌, ltb-true, arith}
+use Rattle.std.proofs.lemmas.Bool.{and_parts, eqb-true, false≢true}
 use Rattle.std.proofs.lemmas.Option.{none-some, same_Some}
+use Rattle.std.specs.List.{list_all}
 use Rattle.hir_def.specs.declared.CrateId.{CrateId}
 use Rattle.hir_def.specs.declared.ModuleId.{ModuleId}
 use Rattle.hir_def.specs.declared.ModuleDefId.{ModuleDefId}
@@ -12,21 +13,26 @@ use Rattle.hir_def.specs.declared.import.ImportOrExternCrate.{ImportOrExternCrat
 use Rattle.hir_def.specs.declared.import.ImportOrExternCrate.TheVariants.{Glob, Import}
 use Rattle.nameres.specs.Shapes.{TopOfCrate, Rules}
 use Rattle.path_text.specs.declared.mod_path.PathKind.TheVariants.{Crate}
+use Rattle.entries.specs.declared.per_ns.Item.{Item}
 use Rattle.entries.specs.declared.visibility.Visibility.{Visibility}
 use Rattle.entries.specs.declared.visibility.Visibility.TheVariants.{Public}
-use Rattle.entries.specs.Visibilities.{Sees, visible, chain_of, inside, settled}
+use Rattle.entries.specs.Visibilities.{Sees, visible, named, chain_of, inside, settled}
 use Rattle.entries.proofs.Visible.{visible_decides}
+use Rattle.item_scope.specs.declared.index_data.EnumVariant.{EnumVariant}
 use Rattle.item_scope.specs.declared.place.Place.{Place}
+use Rattle.item_scope.specs.declared.place.Place.TheVariants.{ByName}
 use Rattle.item_scope.specs.Deliveries.{answer_of, any_changed, delivered, refused, type_tests, value_tests, macro_tests}
-use Rattle.item_scope.specs.Places.{Tests}
-use Rattle.item_scope.specs.Views.{View, Types, Values}
+use Rattle.item_scope.specs.Globs.{wide_glob, narrow_glob, by_glob}
+use Rattle.item_scope.specs.IndexData.{SoundData, def_in, item_in}
+use Rattle.item_scope.specs.Places.{Tests, is_empty}
+use Rattle.item_scope.specs.Views.{View, Types, Values, PlacesIn, place_in as holder_in}
 use Rattle.path_resolution.specs.declared.answer.ReachedFixedPoint.{ReachedFixedPoint}
 use Rattle.path_resolution.specs.declared.answer.ReachedFixedPoint.TheVariants.{Yes, No}
 use Rattle.path_resolution.specs.declared.answer.ResolvePathResult.{ResolvePathResult as Answer}
 use Rattle.path_resolution.specs.Outward.{outward_from}
 use Rattle.path_resolution.specs.Questions.{answered}
 use Rattle.path_resolution.specs.Singles.{single_of}
-use Rattle.path_resolution.specs.SmallTree.{small_shape, small_tree, module_at, module_def, private_to, asked_in}
+use Rattle.path_resolution.specs.SmallTree.{Row, place_in, types_rows, values_rows, small_shape, small_data, small_tree, module_at, module_def, private_to, asked_in}
 use Rattle.path_resolution.specs.Walks.{walk_of}
 use Rattle.runs.specs.Chains.{InSight, NoneInSight, Leads, Fills, ProperPrefix, StaysIn, IsChain, ChainAnswer, root_of}
 use Rattle.runs.specs.Chains.Leads.{here, through, nowhere}
@@ -34,7 +40,7 @@ use Rattle.runs.specs.Order.{Agree}
 use Rattle.runs.specs.declared.calls.Call.TheVariants.{Deliver}
 use Rattle.runs.specs.Runs.{State, state, Did, Ran}
 use Rattle.runs.specs.Runs.Ran.{done, next}
-use Rattle.runs.specs.SmallTree.{names, Decides, Chains, Hides, brings_g, Reorders}
+use Rattle.runs.specs.SmallTree.{Lawful, names, Decides, Chains, Hides, brings_g, Reorders}
 use Rattle.runs.specs.Spaces as space
 use Rattle.runs.proofs.Chained.{never-empty, chain-law}
 use Rattle.runs.proofs.Sighted.{Tested}
@@ -94,6 +100,80 @@ small-rules = record {
     outsides = λ b h. refl;
     crate-roots = λ c h. refl;
     editions = λ c h. small-edition c.0 h (c.0 == 0) refl;
+  };
+}
+
+small-variant : (e n : ℕ) (x : EnumVariant) (b : Bool) → (e == 0 && n == 26) ≡ b
+    → (if b then Some (record { variant = record { 0 = 0 }; has_constructor = true }) else None) ≡ Some x → (e < 1) × (n < 27)
+small-variant e n x true is told =
+    let p = and_parts (e == 0) (n == 26) is in
+    let first : e ≡ 0 = eqb-true e 0 p.0 in
+    let last : n ≡ 26 = eqb-true n 26 p.1 in
+    (omega arith, omega arith)
+small-variant e n x false is told = absurd (none-some x told)
+
+small-sound : SoundData small_data
+small-sound = record {
+  few_names = omega arith;
+  extern_prelude = λ c n e is. absurd (none-some e is);
+  macro_use = λ m n u is. absurd (none-some u is);
+  prelude = λ m p is. absurd (none-some p is);
+  legacy = λ m n d is. absurd (none-some d is);
+  variant = λ e n x is. small-variant e.0 n.0 x (e.0 == 0 && n.0 == 26) refl is;
+  styles = λ m past. refl;
+}
+
+-- whether the numbers of a row exist: those of its module and its name, and those in its entry
+abbrev row_in : Row → Bool
+row_in r = (nat_lt r.in_module 4 && nat_lt r.name 27) && (def_in small_data r.def && named small_shape r.vis)
+
+-- then those of what rows hold do
+module _ {M : Type 0} (glob : M → Bool) where
+  abbrev row_place : Row → Place (Item ModuleDefId M)
+  row_place r = ByName (record { def = r.def; vis = r.vis; import = None })
+
+  known-in : (rows : List Row) → list_all row_in rows ≡ true → (m : ModuleId) (n : Name) → is_empty (place_in {M = M} rows m n) ≡ false
+      → (m.0 < 4) × (n.0 < 27)
+  known-in [] all m n held = absurd (false≢true (sym held))
+  known-in (r ∷ rows) all m n held =
+      let p = and_parts (row_in r) _ all in
+      let few = and_parts (nat_lt r.in_module 4) _ (and_parts (nat_lt r.in_module 4 && nat_lt r.name 27) _ p.0).0 in
+      let P : Bool → Type 0 = λ b. (m.0 == r.in_module && n.0 == r.name) ≡ b → is_empty (if b then row_place r else place_in rows m n) ≡ false → (m.0 < 4) × (n.0 < 27) in
+      elim (m.0 == r.in_module && n.0 == r.name) as P [
+        | true ↦ λ e h.
+            let q = and_parts (m.0 == r.in_module) _ e in
+            let same_module : m.0 ≡ r.in_module = eqb-true _ _ q.0 in
+            let same_name : n.0 ≡ r.name = eqb-true _ _ q.1 in
+            let few_modules : r.in_module < 4 = ltb-true _ _ few.0 in
+            let few_names : r.name < 27 = ltb-true _ _ few.1 in
+            (omega arith, omega arith)
+        | false ↦ λ e h. known-in rows p.1 m n h
+      ] refl held
+
+  holders-in : (rows : List Row) → list_all row_in rows ≡ true → (m : ModuleId) (n : Name)
+      → holder_in (item_in def_in small_data) (λ (e : Item ModuleDefId M). by_glob glob e.import) (place_in rows m n) ≡ true
+  holders-in [] all m n = refl
+  holders-in (r ∷ rows) all m n =
+      let p = and_parts (row_in r) _ all in
+      let exists = (and_parts (nat_lt r.in_module 4 && nat_lt r.name 27) _ p.0).1 in
+      let P : Bool → Type 0 = λ b. holder_in (item_in def_in small_data) (λ (e : Item ModuleDefId M). by_glob glob e.import) (if b then row_place r else place_in rows m n) ≡ true in
+      elim (m.0 == r.in_module && n.0 == r.name) as P [
+        | true ↦ ap (λ (b : Bool). b && true) exists
+        | false ↦ holders-in rows p.1 m n
+      ]
+
+  rows-in : (rows : List Row) → list_all row_in rows ≡ true → PlacesIn 4 27 (item_in def_in small_data) (λ (e : Item ModuleDefId M). by_glob glob e.import) (place_in rows)
+  rows-in rows all = record { known = known-in rows all; holders = holders-in rows all }
+
+pub lawful : Lawful
+unfolding small_tree
+lawful = record {
+  ruled = small-rules;
+  sound = record {
+    fixed = small-sound;
+    types = rows-in wide_glob types_rows refl;
+    values = rows-in narrow_glob values_rows refl;
+    macros = record { known = λ m n held. absurd (false≢true (sym held)); holders = λ m n. refl };
   };
 }
 

@@ -1,15 +1,17 @@
--- The small tree: paths of which the chain law speaks and what it says of them, a delivery that is hidden, and two runs that come to
--- the same.
+-- The small tree: that it keeps the laws of an index, paths of which the chain law speaks and what it says of them, a delivery that is
+-- hidden, and two runs that come to the same.
 use Rattle.std.specs.Prelude.{◌≡◌, ℕ, Bool, true, false, List, [], ◌∷◌, map, Some, None, Ok}
 use Rattle.hir_def.specs.declared.Name.{Name}
 use Rattle.hir_def.specs.declared.import.ImportOrExternCrate.{ImportOrExternCrate}
 use Rattle.hir_def.specs.declared.import.ImportOrExternCrate.TheVariants.{Glob, Import}
+use Rattle.nameres.specs.Shapes.{Rules}
 use Rattle.path_text.specs.declared.mod_path.PathKind.TheVariants.{Crate}
 use Rattle.entries.specs.declared.visibility.Visibility.{Visibility}
 use Rattle.entries.specs.declared.visibility.Visibility.TheVariants.{Public}
 use Rattle.entries.specs.Entries.{nothing, of_types, of_values}
 use Rattle.item_scope.specs.declared.delivery.Delivery.{Delivery}
 use Rattle.item_scope.specs.Deliveries.{delivery_of, refused}
+use Rattle.item_scope.specs.Views.{Sound}
 use Rattle.path_resolution.specs.declared.answer.ReachedFixedPoint.TheVariants.{Yes, No}
 use Rattle.path_resolution.specs.declared.answer.ResolvePathResult.{ResolvePathResult as Answer}
 use Rattle.path_resolution.specs.SmallTree.{small_tree, module_at, module_def, function_def, private_to, told}
@@ -22,6 +24,12 @@ use Rattle.runs.specs.Runs.{State, state, Ran}
 
 abbrev pub names : List ℕ → List Name
 names = map (λ n. record { 0 = n })
+
+-- what the laws of an index promise of all that it tells: its tree keeps the rules, where a module's rank is its number, and every number
+-- that is told exists
+pub record Lawful : Type 0 where
+  pub ruled : Rules small_tree.fixed.tree (λ m. m.0)
+  pub sound : Sound small_tree
 
 -- the `crate` path with those names, asked in the module m, is a chain, and the answer has what the law says of one, and no other
 pub record Decides (ns : List ℕ) (m : ℕ) (a : Answer) : Type 0 where

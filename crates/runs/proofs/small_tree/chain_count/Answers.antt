@@ -1,5 +1,8 @@
-use Rattle.runs.proofs.Small.{chains, hides, reorders}
+use Rattle.runs.proofs.Small.{lawful, chains, hides, reorders}
 use Rattle.runs.proofs.small_tree.chain_count.Goals as goal
+
+pub returns-clause-lawful : goal.returns-clause-lawful
+returns-clause-lawful c = lawful
 
 pub returns-clause-chains : goal.returns-clause-chains
 returns-clause-chains c = chains
