@@ -4,7 +4,9 @@ ghost use Rattle.path_resolution.specs.Answers.{no_flags, empty, resolved, merge
 
 use entries::per_ns::PerNs;
 
-/// No where a name is left and there is no type to ask it of, else Yes. Either can change when more is delivered.
+/// The status of an answer: No where names are left and there is no type in which to look up the next one, as long as no name was
+/// asked in another crate; No too where a `::` path's first name is no crate; else Yes, even if the last name has no entry. Later
+/// deliveries can change an answer of either status.
 #[derive(Clone, Copy, PartialEq, Eq, Hash, Debug)]
 pub enum ReachedFixedPoint {
     Yes,
@@ -20,11 +22,12 @@ pub struct ResolvePathResultPrefixInfo {
     pub enum_variant: bool,
 }
 
+/// What a path stands for, as far as it was resolved.
 #[derive(Clone, Copy, PartialEq, Eq, Hash, Debug)]
 pub struct ResolvePathResult {
     pub resolved_def: PerNs,
-    /// The index in the path of the first name that was not resolved, since the type before it is no module and has no such
-    /// variant; none where all names were.
+    /// The index in the path of a name that the type before it does not have, where that type is kept: it is no module and has no such
+    /// variant. Else none, as where all names were resolved, or nothing was.
     pub segment_index: Option<usize>,
     pub reached_fixedpoint: ReachedFixedPoint,
     pub prefix_info: ResolvePathResultPrefixInfo,
@@ -43,6 +46,7 @@ impl ReachedFixedPoint {
 }
 
 impl ResolvePathResultPrefixInfo {
+    /// Nothing was passed.
     pub fn none() -> ResolvePathResultPrefixInfo
         ensures { result ≡ no_flags }
     {

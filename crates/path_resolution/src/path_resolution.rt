@@ -11,7 +11,7 @@ ghost use Rattle.path_resolution.specs.Questions.{level_of, known_crate, first_u
 ghost use Rattle.path_resolution.specs.Shown.{ShowsVisible};
 ghost use Rattle.path_resolution.specs.Singles.{single_of, preludes_of};
 
-use crate::answer::{ReachedFixedPoint, ResolvePathResult};
+use crate::answer::ResolvePathResult;
 use crate::question::{Question, ResolveMode};
 use crate::single::{Asked, resolve_path_fp_in_all_preludes, resolve_path_fp_with_macro_single};
 use entries::per_ns::PerNs;
