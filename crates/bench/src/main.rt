@@ -1,5 +1,6 @@
 // bench: loads a world, makes its deliveries and asks its questions, and tells what came of them; after `times` also how long each took,
-// in nanoseconds. The input, which bench/run.py writes, is read before any clock starts.
+// in nanoseconds. The input, which bench/run.py writes, is read before any clock starts; `input` reads it and no more, so that its memory
+// can be told apart.
 #![tactic(auto)]
 
 mod asked;
@@ -11,6 +12,7 @@ use crate::asked::{Group, deliveries, groups};
 use crate::numbers::{Numbers, all_numbers};
 use crate::tables::Tables;
 use crate::timing::{Report, deliver_all, time_groups, variant_on};
+use anyhow::{Result, anyhow};
 use indexes::table_index::{FREE_PLACE_ROW, PlaceRow, TableIndex};
 use item_scope::delivery::Delivery;
 use item_scope::index::{Index, Recipient};
@@ -19,6 +21,9 @@ use std::hash::{BuildHasherDefault, FoldHasher};
 use std::process::ExitCode;
 use std::time::Instant;
 use std::{env, fs, io};
+
+const USAGE: &str =
+    "expected `counts`, `times` or `input`, and then a file that is a world in numbers";
 
 // All that is read before a clock starts.
 #[derive(Drop)]
@@ -61,7 +66,7 @@ fn time_index<I: Recipient>(report: Report, index: &mut I, input: &Input) -> io:
     time_pile(report, &*index, input)
 }
 
-// Loads the tables into an index over free rows, and times it. None where they are refused.
+// Loads the tables into an index over free rows, and times it. Answers whether they are taken.
 fn time_all(report: Report, input: &Input) -> io::Result<bool> {
     let alloc = report.rt.alloc();
     let start = Instant::now(report.rt)?;
@@ -77,32 +82,59 @@ fn time_all(report: Report, input: &Input) -> io::Result<bool> {
     Ok(true)
 }
 
-// Whether the input was read and its tables taken.
-fn run(rt: &HostRuntime, what: &str, path: &str) -> io::Result<bool> {
-    let text = fs::read_to_string(rt, path)?;
-    let numbers = all_numbers(rt.alloc(), text.as_str())?;
-    let Some(input) = read_input(rt.alloc(), numbers.as_slice()) else {
-        return Ok(false);
-    };
-    if what == "input" {
-        return Ok(true);
-    }
-    let with_times = what == "times";
-    time_all(Report { rt, with_times }, &input)
+// What is done with a world.
+#[derive(Clone, Copy)]
+enum Task {
+    Counts,
+    Times,
+    // It is read, and nothing else.
+    Input,
 }
 
-fn start(rt: &HostRuntime) -> io::Result<bool> {
+fn task_of(word: &str) -> Option<Task> {
+    match word {
+        "counts" => Some(Task::Counts),
+        "times" => Some(Task::Times),
+        "input" => Some(Task::Input),
+        _ => None,
+    }
+}
+
+fn do_task(rt: &HostRuntime, task: Task, path: &str) -> Result<()> {
+    let text = fs::read_to_string(rt, path).map_err(|e| anyhow!("{path}: {e}"))?;
+    let numbers = all_numbers(rt.alloc(), text.as_str())?;
+    let Some(input) = read_input(rt.alloc(), numbers.as_slice()) else {
+        return Err(anyhow!("{path}: no world in numbers, or memory is wanting"));
+    };
+    let with_times = match task {
+        Task::Counts => false,
+        Task::Times => true,
+        Task::Input => return Ok(()),
+    };
+    if time_all(Report { rt, with_times }, &input)? {
+        Ok(())
+    } else {
+        Err(anyhow!("{path}: the tables of the world are refused"))
+    }
+}
+
+fn run(rt: &HostRuntime) -> Result<()> {
     let mut words = env::args(rt)?.skip(1);
-    match (words.next(), words.next()) {
-        (Some(what), Some(path)) => run(rt, what.as_str(), path.as_str()),
-        _ => Ok(false),
+    let (Some(task), Some(path)) = (words.next(), words.next()) else {
+        return Err(anyhow!("{USAGE}"));
+    };
+    match task_of(task.as_str()) {
+        Some(task) => do_task(rt, task, path.as_str()),
+        None => Err(anyhow!("{USAGE}")),
     }
 }
 
 fn main(rt: HostRuntime) -> io::Result<ExitCode> {
-    if start(&rt)? {
-        return Ok(ExitCode::SUCCESS);
+    match run(&rt) {
+        Ok(()) => Ok(ExitCode::SUCCESS),
+        Err(error) => {
+            eprintln!(rt; "bench: {error}")?;
+            Ok(ExitCode::FAILURE)
+        }
     }
-    eprintln!(rt; "usage: bench counts|times|input FILE, where FILE is a world in numbers")?;
-    Ok(ExitCode::FAILURE)
 }

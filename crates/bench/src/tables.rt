@@ -48,7 +48,7 @@ fn edition(numbers: &mut Numbers) -> Option<Edition> {
         2018 => Some(Edition::Edition2018),
         2021 => Some(Edition::Edition2021),
         2024 => Some(Edition::Edition2024),
-        other => None,
+        _ => None,
     }
 }
 

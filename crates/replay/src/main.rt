@@ -9,25 +9,26 @@ use replays::tally::Tally;
 use replays::verdict::Verdict;
 use replays::words::lines_of;
 use std::alloc::Global;
-use std::fmt::Write;
 use std::process::ExitCode;
 use std::{fs, io};
 use world_lines::answer_input;
 
-fn read(rt: &HostRuntime, name: &str) -> Result<String> {
-    match fs::read_to_string(rt, name) {
-        Ok(text) => Ok(text),
-        Err(e) => Err(anyhow!("{name}: {e}")),
-    }
+// A file that lies beside the program.
+#[derive(Drop)]
+struct File {
+    name: &'static str,
+    text: String,
 }
 
-fn answers_of(alloc: Global, input: &str) -> Result<String> {
+fn read(rt: &HostRuntime, name: &'static str) -> Result<File> {
+    let text = fs::read_to_string(rt, name).map_err(|e| anyhow!("{name}: {e}"))?;
+    Ok(File { name, text })
+}
+
+fn answers_of(alloc: Global, input: &File) -> Result<String> {
     let mut out = Vec::new(alloc);
-    answer_input(alloc, input.as_bytes(), &mut out)?;
-    match String::from_utf8(out) {
-        Ok(answers) => Ok(answers),
-        Err(_) => Err(anyhow!("the answers are no text")),
-    }
+    answer_input(alloc, input.text.as_bytes(), &mut out)?;
+    String::from_utf8(out).map_err(|_| anyhow!("the answers are no text"))
 }
 
 // Adds the tally to the report, and tells where something is not as written. Answers whether all is.
@@ -43,20 +44,14 @@ fn add_tally(alloc: Global, report: &mut String, file: &str, verdicts: &[Verdict
     Ok(tally.wrong == 0)
 }
 
-fn hold_answers(
-    alloc: Global,
-    report: &mut String,
-    file: &str,
-    stored: &str,
-    answers: &[&str],
-) -> Result<bool> {
-    let lines = lines_of(alloc, stored)?;
+fn hold_answers(alloc: Global, report: &mut String, file: &File, answers: &[&str]) -> Result<bool> {
+    let lines = lines_of(alloc, file.text.as_str())?;
     let mut stored = Vec::new(alloc);
     for line in lines.as_slice() {
         stored.push(Stored::read(alloc, line)?)?;
     }
     let verdicts = hold_all(alloc, stored.as_slice(), answers)?;
-    add_tally(alloc, report, file, verdicts.as_slice())
+    add_tally(alloc, report, file.name, verdicts.as_slice())
 }
 
 fn hold_said<'a>(alloc: Global, line: &'a str, answers: &[&str]) -> Result<Verdict<'a>> {
@@ -73,19 +68,13 @@ fn hold_said<'a>(alloc: Global, line: &'a str, answers: &[&str]) -> Result<Verdi
     Ok(said.hold(defs.as_ref()))
 }
 
-fn hold_rustc(
-    alloc: Global,
-    report: &mut String,
-    file: &str,
-    said: &str,
-    answers: &[&str],
-) -> Result<bool> {
+fn hold_rustc(alloc: Global, report: &mut String, file: &File, answers: &[&str]) -> Result<bool> {
     let mut verdicts = Vec::new(alloc);
-    let lines = lines_of(alloc, said)?;
+    let lines = lines_of(alloc, file.text.as_str())?;
     for line in lines.as_slice() {
         verdicts.push(hold_said(alloc, line, answers)?)?;
     }
-    add_tally(alloc, report, file, verdicts.as_slice())
+    add_tally(alloc, report, file.name, verdicts.as_slice())
 }
 
 // The report, and whether all is as written. What cannot be read is told before anything is reported.
@@ -98,32 +87,14 @@ fn replay(rt: &HostRuntime) -> Result<(String, bool)> {
     let real_said = read(rt, "regex-syntax.rustc")?;
     let mut report = String::new(alloc);
 
-    let answered = answers_of(alloc, sample.as_str())?;
+    let answered = answers_of(alloc, &sample)?;
     let lines = lines_of(alloc, answered.as_str())?;
-    let sample_is = hold_answers(
-        alloc,
-        &mut report,
-        "sample.answers",
-        sample_answers.as_str(),
-        lines.as_slice(),
-    )?;
+    let sample_is = hold_answers(alloc, &mut report, &sample_answers, lines.as_slice())?;
 
-    let answered = answers_of(alloc, real.as_str())?;
+    let answered = answers_of(alloc, &real)?;
     let lines = lines_of(alloc, answered.as_str())?;
-    let real_is = hold_answers(
-        alloc,
-        &mut report,
-        "regex-syntax.answers",
-        real_answers.as_str(),
-        lines.as_slice(),
-    )?;
-    let said_is = hold_rustc(
-        alloc,
-        &mut report,
-        "regex-syntax.rustc",
-        real_said.as_str(),
-        lines.as_slice(),
-    )?;
+    let real_is = hold_answers(alloc, &mut report, &real_answers, lines.as_slice())?;
+    let said_is = hold_rustc(alloc, &mut report, &real_said, lines.as_slice())?;
     Ok((report, sample_is && real_is && said_is))
 }
 

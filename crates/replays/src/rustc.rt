@@ -24,9 +24,11 @@ pub struct Said<'a> {
     pub name: Option<&'a str>,
     /// Lines count from 1.
     pub line: u32,
-    /// A def, or `-` where it stands for nothing; `None` where rustc does not tell.
+    /// What the path is said to stand for among the types: a def, or `-` for nothing; `None` where rustc does not tell.
     pub types: Option<&'a str>,
+    /// The same of the values.
     pub values: Option<&'a str>,
+    /// The same of the macros.
     pub macros: Option<&'a str>,
 }
 
@@ -134,8 +136,8 @@ impl<'a> Said<'a> {
         }
     }
 
-    /// Whether rustc says the same in each namespace of which it tells.
-    pub fn agrees(&self, defs: &Defs) -> bool
+    // Whether rustc says the same in each namespace of which it tells.
+    fn agrees(&self, defs: &Defs) -> bool
         ensures { result ≡ agrees_of self.now defs.now }
     {
         agrees_at(self.types, defs.types)

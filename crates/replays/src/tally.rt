@@ -11,11 +11,14 @@ use std::alloc::{AllocError, Global};
 use std::collections::BTreeMap;
 use std::fmt;
 
+/// How many answers have each verdict.
 #[derive(Debug, Drop)]
 pub struct Tally {
+    /// The stored answers.
     pub alike: usize,
-    /// By the name of the difference; no name counts 0.
+    /// The answers that differ, by the name of the difference; no name counts 0.
     pub named: BTreeMap<String, usize>,
+    /// The answers that are not as written.
     pub wrong: usize,
 }
 

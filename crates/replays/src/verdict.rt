@@ -4,12 +4,14 @@ ghost use Rattle.replays.specs.Verdicts.{verdict_text, name_of};
 
 use std::fmt;
 
+/// What an answer is beside the line that is stored for it.
 #[derive(Clone, Copy, Debug)]
 pub enum Verdict<'a> {
     /// It is the stored one.
     Alike,
     /// It differs as is stored, by the difference of that name.
     Named(&'a str),
+    /// It is neither of these, or has no line beside it.
     NotAsWritten,
 }
 

@@ -3,6 +3,7 @@ use Rattle.std.specs.Prelude.{◌≡◌, ℕ, Bool, if◌then◌else◌, List, O
 use Rattle.std.specs.declared.alloc.AllocError.{AllocError}
 use Rattle.hir_def.specs.declared.ModuleId.{ModuleId}
 use Rattle.hir_def.specs.declared.Name.{Name}
+use Rattle.hir_def.specs.declared.fault.Fault.{Fault}
 use Rattle.hir_def.specs.declared.fault.Fault.TheVariants.{Text, Path, Tree, Index}
 use Rattle.hir_def.specs.declared.fault.IndexFault.{IndexFault}
 use Rattle.hir_def.specs.declared.fault.IndexFault.TheVariants.{NoModule, NoName}
@@ -27,6 +28,11 @@ use Rattle.world_commands.specs.declared.command.Command.TheVariants as command
 use Rattle.world_commands.specs.declared.answer.Answer.{Answer}
 use Rattle.world_commands.specs.declared.answer.Answer.TheVariants.{Delivered, Asked, Place, Sight, Read, Left, Refused}
 
+-- the answer, or the refusal as one
+abbrev pub told : Result Answer Fault → Answer
+told (Ok a) = a
+told (Err f) = Refused f
+
 -- whether a namespace changed, or why the delivery is refused
 abbrev pub delivery_answer : Result Bool IndexFault → Answer
 delivery_answer (Ok changed) = Delivered changed
@@ -41,7 +47,17 @@ abbrev pub ask_answer : Result ResolvePathResult PathFault → Answer
 ask_answer (Ok a) = Asked a
 ask_answer (Err f) = Refused (Path f)
 
--- the same of what a text was read as, or why it is no path
+-- the path that was read, or why none was
+abbrev pub read_answer : Result ModPath TextFault → Answer
+read_answer (Ok p) = Read p
+read_answer (Err f) = Refused (Text f)
+
+-- what the path that was read stands for, or why none was read
+abbrev pub ask_read : View → Question → Result ModPath TextFault → Answer
+ask_read v q (Ok p) = ask_answer (answered v q p.kind (vec_items p.names))
+ask_read v q (Err f) = Refused (Text f)
+
+-- the same by the kind and the names of the path
 abbrev pub read_asked : View → Question → Result (PathKind × List Name) TextFault → Answer
 read_asked v q (Ok p) = ask_answer (answered v q p.0 p.1)
 read_asked v q (Err f) = Refused (Text f)

@@ -4,6 +4,7 @@ use hir_def::fault::Fault;
 use path_resolution::answer::ResolvePathResult;
 use path_text::mod_path::ModPath;
 
+/// What is answered to a command.
 #[derive(Debug, Drop)]
 pub enum Answer {
     /// The delivery was taken: whether any namespace changed.
@@ -18,5 +19,6 @@ pub enum Answer {
     Read(ModPath),
     /// How many rows are free.
     Left(usize),
+    /// Why the command is refused.
     Refused(Fault),
 }

@@ -4,7 +4,7 @@ ghost use Rattle.path_text.specs.Lists.{made_of};
 ghost use Rattle.path_resolution.specs.Questions.{answered};
 ghost use Rattle.entries.specs.Visibilities.{asked};
 ghost use Rattle.item_scope.specs.Deliveries.{Takes};
-ghost use Rattle.world_commands.specs.Answers.{delivery_answer, taken_of, ask_answer, place_answer, place_asked, sight_answer, IsReadAs, IsAskedAs, TextAnswer, PathRead, AnswerTo, After};
+ghost use Rattle.world_commands.specs.Answers.{told, delivery_answer, taken_of, ask_answer, place_answer, place_asked, sight_answer, read_answer, ask_read, PathRead, AnswerTo, After};
 
 use crate::answer::Answer;
 use crate::command::Command;
@@ -44,47 +44,51 @@ fn names_of(
     }
 }
 
+// The answer, or the refusal as one.
+fn told(answer: Result<Answer, Fault>) -> Answer
+    ensures { result ≡ told answer }
+{
+    match answer {
+        Ok(answer) => answer,
+        Err(fault) => Answer::Refused(fault),
+    }
+}
+
 #[tactic(auto, using(crate::proofs::Fixed::names))]
-fn delivered<I: Recipient>(index: &mut I, delivery: Delivery) -> Answer
-    ensures answers { result ≡ delivery_answer (taken_of (I.view index.old) (I.left index.old) delivery) }
+fn delivered<I: Recipient>(index: &mut I, delivery: Delivery) -> Result<Answer, Fault>
+    ensures answers { told result ≡ delivery_answer (taken_of (I.view index.old) (I.left index.old) delivery) }
     ensures after { let v = I.view index.old in let left = I.left index.old in
         Takes v left delivery (taken_of v left delivery) (I.view index.new) (I.left index.new) }
     ensures names { (I.view index.new).fixed.names ≡ (I.view index.old).fixed.names }
 {
-    match deliver(index, delivery) {
-        Ok(changed) => Answer::Delivered(changed),
-        Err(fault) => Answer::Refused(Fault::Index(fault)),
-    }
+    let changed = deliver(index, delivery)?;
+    Ok(Answer::Delivered(changed))
 }
 
-fn ask<I: Index>(index: &I, question: Question, path: &ModPath) -> Answer
-    ensures { result ≡ ask_answer (answered (I.view index.now) question path.now.kind path.now.names.items) }
+fn ask<I: Index>(index: &I, question: Question, path: &ModPath) -> Result<Answer, Fault>
+    ensures { told result ≡ ask_answer (answered (I.view index.now) question path.now.kind path.now.names.items) }
 {
-    match resolve_path_fp_with_macro(index, question, path) {
-        Ok(answer) => Answer::Asked(answer),
-        Err(fault) => Answer::Refused(Fault::Path(fault)),
-    }
+    let answer = resolve_path_fp_with_macro(index, question, path)?;
+    Ok(Answer::Asked(answer))
 }
 
-fn place<I: Index>(index: &I, at: ModuleId, name: Name) -> Answer
-    ensures { result ≡ place_answer (place_asked (I.view index.now) at name) }
+fn place<I: Index>(index: &I, at: ModuleId, name: Name) -> Result<Answer, Fault>
+    ensures { told result ≡ place_answer (place_asked (I.view index.now) at name) }
 {
     if at.0 >= index.modules() {
-        return Answer::Refused(Fault::Index(IndexFault::NoModule));
+        return Err(Fault::from(IndexFault::NoModule));
     }
     if name.0 >= index.names() {
-        return Answer::Refused(Fault::Index(IndexFault::NoName));
+        return Err(Fault::from(IndexFault::NoName));
     }
-    Answer::Place(index.get(at, name))
+    Ok(Answer::Place(index.get(at, name)))
 }
 
-fn sight<I: Index>(index: &I, vis: Visibility, from: ModuleId) -> Answer
-    ensures { result ≡ sight_answer (asked (I.view index.now).fixed.tree from vis) }
+fn sight<I: Index>(index: &I, vis: Visibility, from: ModuleId) -> Result<Answer, Fault>
+    ensures { told result ≡ sight_answer (asked (I.view index.now).fixed.tree from vis) }
 {
-    match vis.is_visible_from(index, from) {
-        Ok(seen) => Answer::Sight(seen),
-        Err(fault) => Answer::Refused(Fault::Tree(fault)),
-    }
+    let seen = vis.is_visible_from(index, from)?;
+    Ok(Answer::Sight(seen))
 }
 
 // The path that a text stands for, or why it stands for none, which may be that there is no list.
@@ -106,34 +110,22 @@ fn path_of(
     }
 }
 
-#[tactic(auto, using(crate::proofs::Texts::no_memory, crate::proofs::Texts::path_read, crate::proofs::Texts::none_read))]
-fn read(
-    alloc: Global,
-    names: &Result<NameList, TextFault>,
-    text: &[u8],
-) -> Result<Answer, AllocError>
-    ensures { TextAnswer IsReadAs names.now text.now result }
+fn read(path: Result<ModPath, TextFault>) -> Result<Answer, Fault>
+    ensures { told result ≡ read_answer path }
 {
-    match path_of(alloc, names, text)? {
-        Ok(path) => Ok(Answer::Read(path)),
-        Err(fault) => Ok(Answer::Refused(Fault::Text(fault))),
-    }
+    let path = path?;
+    Ok(Answer::Read(path))
 }
 
-#[tactic(auto, using(crate::proofs::Texts::no_memory, crate::proofs::Texts::path_asked, crate::proofs::Texts::none_asked))]
-fn ask_text<I: Index>(
-    alloc: Global,
+fn ask_read<I: Index>(
     index: &I,
     question: Question,
-    names: &Result<NameList, TextFault>,
-    text: &[u8],
-) -> Result<Answer, AllocError>
-    ensures { TextAnswer (IsAskedAs (I.view index.now) question) names.now text.now result }
+    path: Result<ModPath, TextFault>,
+) -> Result<Answer, Fault>
+    ensures { told result ≡ ask_read (I.view index.now) question path }
 {
-    match path_of(alloc, names, text)? {
-        Ok(path) => Ok(ask(index, question, &path)),
-        Err(fault) => Ok(Answer::Refused(Fault::Text(fault))),
-    }
+    let path = path?;
+    ask(index, question, &path)
 }
 
 impl<'n, I: Recipient + Drop> World<'n, I> {
@@ -155,6 +147,7 @@ impl<'n, I: Recipient + Drop> World<'n, I> {
 
     /// The answer to a command. Text is read by a list of exactly the index's names, and refused where the bytes make
     /// none. A delivery that is taken changes the index, and nothing else does.
+    #[tactic(auto, using(crate::proofs::Texts::no_memory, crate::proofs::Texts::path_read, crate::proofs::Texts::path_asked))]
     pub fn answer(&mut self, alloc: Global, command: &Command) -> Result<Answer, AllocError>
         ensures answers { let i = self.old.index in
             AnswerTo (I.view i) (I.left i) self.old.list.now command.now result }
@@ -163,16 +156,18 @@ impl<'n, I: Recipient + Drop> World<'n, I> {
         ensures list { self.new.list.now ≡ self.old.list.now }
     {
         let index = &self.index;
-        match command {
-            Command::Deliver(delivery) => Ok(delivered(&mut self.index, *delivery)),
-            Command::Ask(question, path) => Ok(ask(index, *question, path)),
+        let answer = match command {
+            Command::Deliver(delivery) => delivered(&mut self.index, *delivery),
+            Command::Ask(question, path) => ask(index, *question, path),
             Command::AskText(question, text) => {
-                ask_text(alloc, index, *question, &self.names, text.as_slice())
+                let path = path_of(alloc, &self.names, text.as_slice())?;
+                ask_read(index, *question, path)
             }
-            Command::Place(at, name) => Ok(place(index, *at, *name)),
-            Command::Sight(vis, from) => Ok(sight(index, *vis, *from)),
-            Command::Read(text) => read(alloc, &self.names, text.as_slice()),
+            Command::Place(at, name) => place(index, *at, *name),
+            Command::Sight(vis, from) => sight(index, *vis, *from),
+            Command::Read(text) => read(path_of(alloc, &self.names, text.as_slice())?),
             Command::Left => Ok(Answer::Left(index.left())),
-        }
+        };
+        Ok(told(answer))
     }
 }

@@ -20,35 +20,32 @@ pub(crate) struct IndexRows {
 
 fn extern_row(rest: &str) -> Option<Row<CrateName, ExternPrelude>> {
     let mut words = rest.split(' ');
-    let krate = CrateId(number(words.next()?)?);
-    let name = Name(number(words.next()?)?);
-    let module = ModuleId(number(words.next()?)?);
-    let extern_crate = optional(words.next()?)?.map(ExternCrateId);
-    match words.next() {
-        Some(_) => None,
-        None => Some(Row {
-            key: CrateName { krate, name },
-            value: ExternPrelude {
-                module,
-                extern_crate,
-            },
-        }),
-    }
+    let row = Row {
+        key: CrateName {
+            krate: CrateId(number(words.next()?)?),
+            name: Name(number(words.next()?)?),
+        },
+        value: ExternPrelude {
+            module: ModuleId(number(words.next()?)?),
+            extern_crate: optional(words.next()?)?.map(ExternCrateId),
+        },
+    };
+    words.next().is_none().then_some(row)
 }
 
 fn macro_use_row(rest: &str) -> Option<Row<MapName, MacroUse>> {
     let mut words = rest.split(' ');
-    let map = map(words.next()?)?;
-    let name = Name(number(words.next()?)?);
-    let def = MacroId(number(words.next()?)?);
-    let extern_crate = optional(words.next()?)?.map(ExternCrateId);
-    match words.next() {
-        Some(_) => None,
-        None => Some(Row {
-            key: MapName { map, name },
-            value: MacroUse { def, extern_crate },
-        }),
-    }
+    let row = Row {
+        key: MapName {
+            map: map(words.next()?)?,
+            name: Name(number(words.next()?)?),
+        },
+        value: MacroUse {
+            def: MacroId(number(words.next()?)?),
+            extern_crate: optional(words.next()?)?.map(ExternCrateId),
+        },
+    };
+    words.next().is_none().then_some(row)
 }
 
 fn prelude_row(rest: &str) -> Option<Row<DefMapId, ModuleId>> {
@@ -61,48 +58,54 @@ fn prelude_row(rest: &str) -> Option<Row<DefMapId, ModuleId>> {
 
 fn legacy_row(rest: &str) -> Option<Row<ModuleName, MacroId>> {
     let mut words = rest.split(' ');
-    let at = ModuleId(number(words.next()?)?);
-    let name = Name(number(words.next()?)?);
-    let value = MacroId(number(words.next()?)?);
-    match words.next() {
-        Some(_) => None,
-        None => Some(Row {
-            key: ModuleName { at, name },
-            value,
-        }),
-    }
+    let row = Row {
+        key: ModuleName {
+            at: ModuleId(number(words.next()?)?),
+            name: Name(number(words.next()?)?),
+        },
+        value: MacroId(number(words.next()?)?),
+    };
+    words.next().is_none().then_some(row)
 }
 
 fn variant_row(rest: &str) -> Option<Row<EnumName, EnumVariant>> {
     let mut words = rest.split(' ');
-    let of = EnumId(number(words.next()?)?);
-    let name = Name(number(words.next()?)?);
-    let variant = EnumVariantId(number(words.next()?)?);
-    let has_constructor = match words.next()? {
-        "0" => false,
-        "1" => true,
-        _ => return None,
-    };
-    match words.next() {
-        Some(_) => None,
-        None => Some(Row {
-            key: EnumName { of, name },
-            value: EnumVariant {
-                variant,
-                has_constructor,
+    let row = Row {
+        key: EnumName {
+            of: EnumId(number(words.next()?)?),
+            name: Name(number(words.next()?)?),
+        },
+        value: EnumVariant {
+            variant: EnumVariantId(number(words.next()?)?),
+            has_constructor: match words.next()? {
+                "0" => false,
+                "1" => true,
+                _ => return None,
             },
-        }),
-    }
+        },
+    };
+    words.next().is_none().then_some(row)
 }
 
-// Pushes what a line was read as, or answers that it was not.
-fn pushed<T: Drop>(rows: &mut Vec<T>, row: Option<T>) -> Result<bool, AllocError> {
+/// Pushes what a line was read as, or answers that it was not.
+pub(crate) fn pushed<T: Drop>(rows: &mut Vec<T>, row: Option<T>) -> Result<bool, AllocError> {
     match row {
         Some(row) => {
             rows.push(row)?;
             Ok(true)
         }
         None => Ok(false),
+    }
+}
+
+/// Takes what a line was read as for a value, or answers that it was not.
+pub(crate) fn set<T: Copy>(value: &mut T, told: Option<T>) -> bool {
+    match told {
+        Some(told) => {
+            *value = told;
+            true
+        }
+        None => false,
     }
 }
 
@@ -119,20 +122,10 @@ impl IndexRows {
         }
     }
 
-    fn told_enums(&mut self, rest: &str) -> bool {
-        match number(rest) {
-            Some(enums) => {
-                self.enums = enums;
-                true
-            }
-            None => false,
-        }
-    }
-
     /// Takes in one line of these tables, or answers that it is none.
     pub(crate) fn read(&mut self, verb: &str, rest: &str) -> Result<bool, AllocError> {
         match verb {
-            "enums" => Ok(self.told_enums(rest)),
+            "enums" => Ok(set(&mut self.enums, number(rest))),
             "macro" => pushed(&mut self.styles, styles(rest)),
             "extern" => pushed(&mut self.extern_prelude, extern_row(rest)),
             "macrouse" => pushed(&mut self.macro_use, macro_use_row(rest)),

@@ -23,7 +23,7 @@ pub(crate) struct Lines<R> {
 
 // Empty lines, and lines that begin with `#`, say nothing.
 fn is_said(text: &[u8]) -> bool {
-    !text.is_empty() && text[0] != b'#'
+    text.first().is_some_and(|first| *first != b'#')
 }
 
 impl<R: BufRead + Drop> Lines<R> {

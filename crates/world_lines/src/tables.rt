@@ -1,5 +1,5 @@
 // The tables of a world, as its lines tell them.
-use crate::index_rows::IndexRows;
+use crate::index_rows::{IndexRows, pushed, set};
 use crate::lines::Line;
 use hir_def::builtin_type::BuiltinType;
 use hir_def::edition::Edition;
@@ -9,7 +9,6 @@ use nameres::tree_rows;
 use nameres::tree_rows::{BlockRow, CrateRow, ModuleRow};
 use source_text::number::number;
 use std::alloc::{AllocError, Global};
-use std::fmt::Write;
 use world_commands::fields::{bytes, optional};
 
 // How many rows a world has that does not say it.
@@ -35,27 +34,22 @@ pub(crate) struct Tables {
     pub make: Make,
     /// How many rows the index is lent for its places.
     pub rows: u32,
-    pub modules: Vec<ModuleRow>,
-    pub blocks: Vec<BlockRow>,
+    modules: Vec<ModuleRow>,
+    blocks: Vec<BlockRow>,
     editions: Vec<Edition>,
     names: u32,
     list: List,
-    pub index: IndexRows,
+    index: IndexRows,
 }
 
 fn module_row(rest: &str) -> Option<ModuleRow> {
     let mut words = rest.split(' ');
-    let krate = CrateId(number(words.next()?)?);
-    let block = optional(words.next()?)?.map(BlockId);
-    let parent = optional(words.next()?)?.map(ModuleId);
-    match words.next() {
-        Some(_) => None,
-        None => Some(ModuleRow {
-            krate,
-            block,
-            parent,
-        }),
-    }
+    let row = ModuleRow {
+        krate: CrateId(number(words.next()?)?),
+        block: optional(words.next()?)?.map(BlockId),
+        parent: optional(words.next()?)?.map(ModuleId),
+    };
+    words.next().is_none().then_some(row)
 }
 
 fn block_row(rest: &str) -> Option<BlockRow> {
@@ -75,12 +69,12 @@ fn make_of(rest: &str) -> Option<Make> {
 }
 
 fn push_numbered(alloc: Global, lines: &mut Vec<u8>, name: u32) -> Result<(), AllocError> {
-    if let Some(text) = BuiltinType::text(Name(name)) {
-        lines.extend_from_slice(text.as_bytes())?;
-    } else {
-        let mut text = String::new(alloc);
-        write!(text, "n{name}")?;
-        lines.extend_from_slice(text.as_bytes())?;
+    match BuiltinType::text(Name(name)) {
+        Some(text) => lines.extend_from_slice(text.as_bytes())?,
+        None => {
+            let text = format!(in alloc; "n{name}")?;
+            lines.extend_from_slice(text.as_bytes())?;
+        }
     }
     lines.extend_from_slice(b"\n")
 }
@@ -113,34 +107,15 @@ impl Tables {
     pub(crate) fn read(&mut self, alloc: Global, line: Line) -> Result<bool, AllocError> {
         let rest = line.rest;
         match line.verb {
-            "crate" => match rest.parse::<Edition>().ok() {
-                Some(edition) => self.editions.push(edition)?,
-                None => return Ok(false),
-            },
-            "module" => match module_row(rest) {
-                Some(row) => self.modules.push(row)?,
-                None => return Ok(false),
-            },
-            "block" => match block_row(rest) {
-                Some(row) => self.blocks.push(row)?,
-                None => return Ok(false),
-            },
-            "names" => match number(rest) {
-                Some(names) => self.names = names,
-                None => return Ok(false),
-            },
-            "make" => match make_of(rest) {
-                Some(make) => self.make = make,
-                None => return Ok(false),
-            },
-            "rows" => match number(rest) {
-                Some(rows) => self.rows = rows,
-                None => return Ok(false),
-            },
-            "list" => return self.told_list(alloc, rest),
-            verb => return self.index.read(verb, rest),
+            "crate" => pushed(&mut self.editions, rest.parse::<Edition>().ok()),
+            "module" => pushed(&mut self.modules, module_row(rest)),
+            "block" => pushed(&mut self.blocks, block_row(rest)),
+            "names" => Ok(set(&mut self.names, number(rest))),
+            "make" => Ok(set(&mut self.make, make_of(rest))),
+            "rows" => Ok(set(&mut self.rows, number(rest))),
+            "list" => self.told_list(alloc, rest),
+            verb => self.index.read(verb, rest),
         }
-        Ok(true)
     }
 
     /// A row for each crate. Its root is its first blockless module without a parent; if there is none, a number that
