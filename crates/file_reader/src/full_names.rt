@@ -107,8 +107,8 @@ impl<'a> Reader<'a> {
         if found.is_none() {
             return Err(Complaint::at(
                 word,
-                "nothing of this name and a kind is declared above",
-                "the full name of a module, an item of a kind or a variant declared above",
+                "nothing that has a kind is declared above with this full name",
+                "the full name of a module, an item of a kind or a variant declared above; an `item` has no kind",
             ));
         }
         Ok(found)

@@ -7,7 +7,7 @@ ghost use Rattle.statements.specs.Lines.{AskingStandsIn, ToldIn};
 ghost use Rattle.statements.specs.Spelling.{MayBeOption, MayAsk, after_asking};
 ghost use Rattle.statements.specs.declared.asking.Asking.{Asking};
 
-use crate::words::StatementWords;
+use crate::words::{StatementWords, misplaced};
 use hir_def::ModuleId;
 use path_resolution::question::{BuiltinShadowMode, MacroSubNs, Question, ResolveMode};
 use source_text::words::Word;
@@ -118,7 +118,7 @@ pub(crate) fn read_asking<'a>(
         return Ok(None);
     };
     if !from.is("from") {
-        return Err(Complaint::at(from, "this word cannot stand here", FROM));
+        return Err(misplaced(from, FROM));
     }
     let plain = Asking {
         module: words.expect("the full name of a module declared above")?,

@@ -197,7 +197,7 @@ fn with_style(styles: CallStyles, word: Word) -> Result<CallStyles, Complaint>
             ..styles
         })
     } else {
-        Err(Complaint::at(word, "a macro is not called so", STYLE))
+        Err(Complaint::at(word, "this is no way to call a macro", STYLE))
     }
 }
 

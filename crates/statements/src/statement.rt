@@ -16,7 +16,7 @@ use crate::clauses::{
 };
 use crate::kinds::{Bringing, ItemKind, Shape};
 use crate::names::{last_name, text_or_nothing};
-use crate::words::StatementWords;
+use crate::words::{StatementWords, misplaced};
 use hir_def::edition::Edition;
 use source_text::words::Word;
 use troubles::complaint::Complaint;
@@ -72,7 +72,7 @@ fn read_more<'a>(
         return Ok(None);
     };
     if !word.is(keyword) {
-        return Err(Complaint::at(word, "this word cannot stand here", here));
+        return Err(misplaced(word, here));
     }
     Ok(Some(words.expect(expected)?))
 }
@@ -127,7 +127,7 @@ fn read_import_name<'a>(
     } else if word.is("in") {
         Ok(last_name(full))
     } else {
-        Err(Complaint::at(word, "this word cannot stand here", expected))
+        Err(misplaced(word, expected))
     }
 }
 

@@ -9,6 +9,13 @@ use bstr::ByteSlice;
 use source_text::words::{Word, Words};
 use troubles::complaint::Complaint;
 
+/// What is wrong with a word where another one is expected.
+pub(crate) fn misplaced(word: Word, expected: &'static str) -> Complaint
+    ensures { result.line ≡ word.entry.line }
+{
+    Complaint::at(word, "this word cannot stand here", expected)
+}
+
 /// What is left of a line before its comment, which begins with `//`.
 #[derive(Clone, Copy)]
 pub struct StatementWords<'a> {
@@ -67,7 +74,7 @@ impl<'a> StatementWords<'a> {
         if word.is(text) {
             Ok(())
         } else {
-            Err(Complaint::at(word, "this word cannot stand here", expected))
+            Err(misplaced(word, expected))
         }
     }
 
