@@ -9,29 +9,33 @@ use std::alloc::{AllocError, Global};
 pub enum Format {
     /// For people.
     Text,
-    /// A line of words for each statement.
+    /// A line of words for each item, place, path and answer.
     Lines,
     /// An object a line.
     Json,
 }
 
-/// Which make of an index the deliveries are made to.
+/// How the index to which the deliveries are made keeps its places.
 #[derive(Clone, Copy, PartialEq, Eq, Debug)]
 pub enum Make {
+    /// A row for each place.
     Table,
+    /// A row for each entry that came.
     Ledger,
 }
 
 /// What the program is asked to do.
 #[derive(Debug, Drop)]
 pub struct Options<'a> {
+    /// How the report is written.
     pub format: Format,
-    /// The name of each module that sees an item, however many there are.
+    /// Whether each module that sees an item is named, however many there are.
     pub all: bool,
+    /// How the index keeps its places.
     pub make: Make,
     /// How many rows the index is lent; none for as many as the deliveries may need.
     pub rows: Option<u32>,
-    /// How far the program has come, on standard error.
+    /// Whether it is told on standard error how far the report has come.
     pub progress: bool,
     /// The files to read, one at least; `-` is standard input.
     pub files: Vec<&'a str>,
@@ -41,7 +45,7 @@ pub struct Options<'a> {
 pub const VERSION: &str = "0.1, proved with rattle-kit-13f logic dac8208d650f15bf";
 
 const ABOUT: &str =
-    "Reads firmware trees with their items, imports and paths, and prints which modules may see each item, what holds each place and what each path was read as";
+    "Reads firmware trees with their items, imports, paths and card models, and prints which modules may see each item, what holds each place, what each path was read as and stands for, and what each model keeps and cuts";
 
 static MAKES: [&str; 2] = ["table", "ledger"];
 
@@ -68,7 +72,7 @@ fn format_argument<'a>(alloc: Global) -> Result<Arg<'a>, AllocError> {
         .value_name("FORMAT")
         .value_parser(FORMATS.as_slice())
         .help(
-            "How the report is written: for people, in lines of words, or as JSON, an object a line",
+            "How the report is written: for people (the default), in lines of words, or as JSON, an object a line",
         )
         .conflicts_with("lines")
 }
@@ -78,7 +82,9 @@ fn make_argument<'a>(alloc: Global) -> Arg<'a> {
         .long("make")
         .value_name("MAKE")
         .value_parser(MAKES.as_slice())
-        .help("The make of the index that the deliveries are made to; the places are the same")
+        .help(
+            "How the index keeps its places: a row for each place, or a row for each entry that came; the places are the same",
+        )
         .default_value("table")
 }
 
@@ -87,7 +93,9 @@ fn rows_argument<'a>(alloc: Global) -> Arg<'a> {
         .long("rows")
         .value_name("N")
         .value_parser(value_parser!(u32))
-        .help("Lends the index no more than N rows, so that it may run out of them")
+        .help(
+            "Lends the index no more than N rows, so that deliveries may be refused for want of rows; without it none is",
+        )
 }
 
 fn flag<'a>(alloc: Global, name: &'a str, help: &'a str) -> Arg<'a> {
@@ -118,7 +126,7 @@ fn command<'a>(alloc: Global) -> Result<Command<'a>, AllocError> {
         .arg(flag(
             alloc,
             "progress",
-            "Say on standard error how far it has come",
+            "Tell on standard error how far the report has come",
         ))
 }
 

@@ -66,11 +66,11 @@ fn bad_items(rt: HostRuntime) -> Result<(), Fail> {
             ),
             (
                 b"crate a 2021\nmacro m in a pub bang once\n",
-                "f.feq:2:23: a macro is not called so\n    macro m in a pub bang once\n                          ^\nexpected how the macro is called: `bang`, `attribute` or `derive`, one at least\n",
+                "f.feq:2:23: this is no way to call a macro\n    macro m in a pub bang once\n                          ^\nexpected how the macro is called: `bang`, `attribute` or `derive`, one at least\n",
             ),
             (
                 b"crate a 2021\nvariant a::e::v unit\n",
-                "f.feq:2:9: nothing of this name and a kind is declared above\n    variant a::e::v unit\n            ^\nexpected the full name of a module, an item of a kind or a variant declared above\n",
+                "f.feq:2:9: nothing that has a kind is declared above with this full name\n    variant a::e::v unit\n            ^\nexpected the full name of a module, an item of a kind or a variant declared above; an `item` has no kind\n",
             ),
             (
                 b"crate a 2021\nlegacy-macro m in a\nlegacy-macro m in a\n",
@@ -87,7 +87,7 @@ fn bad_imports(rt: HostRuntime) -> Result<(), Fail> {
         &[
             (
                 b"crate a 2021\nitem x in a pub\nuse a::x in a pub\n",
-                "f.feq:3:5: nothing of this name and a kind is declared above\n    use a::x in a pub\n        ^\nexpected the full name of a module, an item of a kind or a variant declared above\n",
+                "f.feq:3:5: nothing that has a kind is declared above with this full name\n    use a::x in a pub\n        ^\nexpected the full name of a module, an item of a kind or a variant declared above; an `item` has no kind\n",
             ),
             (
                 b"crate a 2021\nfn x in a pub\nuse-glob a::x as y in a pub\n",

@@ -152,7 +152,7 @@ fn bad_statements_below_models(rt: HostRuntime) -> Result<(), Fail> {
             ),
             (
                 b"crate a 2021\nmodel m\nfn x in a pub\nmodel n\nuse a::x in a pub\n",
-                "f.feq:5:5: nothing of this name and a kind is declared above\n    use a::x in a pub\n        ^\nexpected the full name of a module, an item of a kind or a variant declared above\n",
+                "f.feq:5:5: nothing that has a kind is declared above with this full name\n    use a::x in a pub\n        ^\nexpected the full name of a module, an item of a kind or a variant declared above; an `item` has no kind\n",
             ),
         ],
     )

@@ -80,12 +80,12 @@ impl<'b, 's, 'a, I: Index> Results<'b, 's, 'a, I> {
         style: Style,
     ) -> io::Result<Results<'b, 's, 'a, I>>
         ensures told { IfOk result (λ r. r.told ≡ told_of (vec_items survey.entry.now.firmware.now.models) model.now) }
-        // The index is what the model's own deliveries make of the one below.
+        // The indexes are what the model's own deliveries make of the one below, in their order and in the other.
         ensures run { IfOk result (λ r. RanOver (I.view below.entry.now) (own_deliveries survey.entry.now.firmware.now model.now)
             (vec_items r.made.outcomes) (view_in r.made.index) (left_in r.made.index)) }
         ensures order { IfOk result (λ r. r.made.order ≡ other_order (calls_in (own_deliveries survey.entry.now.firmware.now model.now))) }
         ensures compared { IfOk result (λ r. Compares (I.view below.entry.now) (view_in r.made.index)
-            (vec_items r.made.outcomes) r.made.order r.made.agreement) }
+            (vec_items r.made.outcomes) r.made.order r.made.agreement (view_in r.made.other) (left_in r.made.other)) }
         ensures comparison { IfOk result (λ r. r.comparison
             ≡ comparison_of (own_deliveries survey.entry.now.firmware.now model.now) r.made.order r.made.agreement) }
         ensures stands { IfOk result (λ r. HasStatement r.comparison) }

@@ -143,17 +143,15 @@ module _ (u : View) (ss : List DeliveryStatement) (ds : List Delivery) (e : ds �
       subst (λ (k : ℕ). NamesBelow k a) (reordered-length order cs ∙ as_many) (subst (NamesBelow (length (reordered order cs))) (sym h) (names_below (reordered order cs) others))
 
   pub compares : (w y : View) (m j : ℕ) (others : List Call) (order : Order) (a : Agreement) (p : Answers) → w ≡ u → m ≡ own_places → Tried (state w m) (reordered order (calls_of ds)) others q path d p (state y j)
-      → a ≡ agreement_of (reordered order cs) others → AgreementLaw v w a cs others o.before p.before → (os : List Outcome) → os ≡ outcomes_of ss cs → Compares u x os order a
+      → a ≡ agreement_of (reordered order cs) others → AgreementLaw v w a cs others o.before p.before → (os : List Outcome) → os ≡ outcomes_of ss cs → Compares u x os order a y j
   compares w y m j others order a p ew em second h law os f =
       let again : map made_call os ≡ cs = ap (map made_call) f ∙ calls_again ss cs made-calls ran in
       let other : Ran (state u own_places) others (state y j) = over u w y m j (reordered order (calls_of ds)) others q path d p ew em n second in
       let one : x ≡ told_after v cs = ran-told cs ran ∙ ap (λ (z : View). told_after z cs) (sym ev) in
       let two : y ≡ told_after w others = ran-told others other ∙ ap (λ (z : View). told_after z others) (sym ew) in
       record {
-        other = others;
-        view = y;
-        left = j;
-        calls = second.calls ∙ reordered-unmade order (calls_of ds) ∙ ap (reordered order) (sym first.calls) ∙ sym (reordered-unmade order cs) ∙ ap (λ (t : List Call). map unmade (reordered order t)) (sym again);
+        calls = others;
+        given = second.calls ∙ reordered-unmade order (calls_of ds) ∙ ap (reordered order) (sym first.calls) ∙ sym (reordered-unmade order cs) ∙ ap (λ (t : List Call). map unmade (reordered order t)) (sym again);
         ran = other;
         agreement = h ∙ ap (λ (t : List Call). agreement_of (reordered order t) others) (sym again);
         agree = λ g. same x y (told_after v cs) (told_after w others) o.before p.before one two (law (ev ∙ sym ew) g);

@@ -16,11 +16,12 @@ use Rattle.hir_def.specs.declared.Name.{Name}
 use Rattle.runs.specs.Runs.{state, unmade}
 use Rattle.runs.specs.Runs as runs
 use Rattle.runs.specs.declared.calls.Call.{Call}
+use Rattle.variants.specs.declared.own_places.TheConstants.{MOST_OWN_PLACES}
 use Rattle.model_runs.specs.Calls.{made_call}
 
 -- so many places of its own a model has at most
 abbrev pub own_places : ℕ
-own_places = 64
+own_places = MOST_OWN_PLACES
 
 -- over an index each delivery is taken or refused as an index takes it that tells what those before it made; all own places are free
 -- at first, and then so many
@@ -36,15 +37,13 @@ pub record TellTheSame (v w : View) : Type 0 where
   pub answers : (q : Question) (k : PathKind) (ns : List Name) → answered v q k ns ≡ answered w q k ns
 
 -- The deliveries of these outcomes, after which `made` is told, were made in the order too, over the same index and with as many free
--- places. What came of them agrees so; and where it does, both tell the same.
-pub record Compares (below made : View) (os : List Outcome) (order : Order) (a : Agreement) : Type 0 where
-  pub other : List Call
-  pub view : View
-  pub left : ℕ
-  pub calls : map unmade other ≡ map unmade (reordered order (map made_call os))
-  pub ran : runs.Ran (state below own_places) other (state view left)
-  pub agreement : a ≡ agreement_of (reordered order (map made_call os)) other
-  pub agree : Agrees a → TellTheSame made view
+-- places: after them `other` is told, and so many places are left. What came of them agrees so; and where it does, both tell the same.
+pub record Compares (below made : View) (os : List Outcome) (order : Order) (a : Agreement) (other : View) (left : ℕ) : Type 0 where
+  pub calls : List Call
+  pub given : map unmade calls ≡ map unmade (reordered order (map made_call os))
+  pub ran : runs.Ran (state below own_places) calls (state other left)
+  pub agreement : a ≡ agreement_of (reordered order (map made_call os)) calls
+  pub agree : Agrees a → TellTheSame made other
 
 -- a position that it names is below the number
 abbrev pub NamesBelow : ℕ → Agreement → Type 0

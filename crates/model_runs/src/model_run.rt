@@ -122,6 +122,8 @@ fn outcomes_of<'s>(
 pub struct Made<'a, 's, I: Index> {
     /// The model: a variant with the deliveries in the order in which they were given.
     pub index: Variant<'a, I>,
+    /// A variant with the deliveries in the other order.
+    pub other: Variant<'a, I>,
     /// The statements in that order, each with what came of its delivery.
     pub outcomes: Vec<Outcome<'s>>,
     /// The other order.
@@ -141,7 +143,8 @@ pub fn make_model<'a, 's, I: Index>(
     ensures run { IfOk result (λ m. RanOver (I.view below.entry.now) statements.now (vec_items m.outcomes) (view_in m.index) (left_in m.index)) }
     ensures order { IfOk result (λ m. m.order ≡ other_order (calls_in statements.now)) }
     // Whether the other order comes to the same; where it does, every question has one answer in both.
-    ensures compared { IfOk result (λ m. Compares (I.view below.entry.now) (view_in m.index) (vec_items m.outcomes) m.order m.agreement) }
+    ensures compared { IfOk result (λ m. Compares (I.view below.entry.now) (view_in m.index)
+        (vec_items m.outcomes) m.order m.agreement (view_in m.other) (left_in m.other)) }
     ensures within { IfOk result (λ m. NamesBelow (length statements.now) m.agreement) }
 {
     let deliveries = deliveries_of(alloc, statements)?;
@@ -163,6 +166,7 @@ pub fn make_model<'a, 's, I: Index>(
     let outcomes = outcomes_of(alloc, statements, orders.first.as_slice())?;
     Ok(Made {
         index: first,
+        other: second,
         outcomes,
         order: orders.order,
         agreement: orders.agreement,

@@ -6,6 +6,7 @@ use Rattle.cuts.specs.declared.verdict.Tally.{Tally}
 use Rattle.firmware.specs.declared.file.DeliveryStatement.{DeliveryStatement}
 use Rattle.orders.specs.declared.order.Order.{Order}
 use Rattle.orders.specs.declared.order.Order.TheVariants.{NamesFirst, GlobsFirst}
+use Rattle.variants.specs.declared.own_places.TheConstants.{MOST_OWN_PLACES}
 use Rattle.wording.specs.declared.counts.DeliveryCounts.{DeliveryCounts}
 use Rattle.wording.specs.Aligned.{aligned}
 use Rattle.wording.specs.Outcomes.{counts_text}
@@ -14,7 +15,6 @@ use Rattle.wording.specs.Told.{deliveries_told}
 use Rattle.model_wording.specs.declared.comparison.Comparison.{Comparison}
 use Rattle.model_wording.specs.declared.comparison.Comparison.TheVariants.{Alone, Agree, Parted}
 use Rattle.model_wording.specs.declared.model_told.ModelAccount.{ModelAccount}
-use Rattle.model_wording.specs.declared.model_told.TheConstants.{MOST_OWN_PLACES}
 
 -- what a model stands over
 abbrev pub over_told : Option (Bor (List ℕ)) → List ℕ

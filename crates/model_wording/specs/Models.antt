@@ -12,10 +12,10 @@ use Rattle.firmware.specs.declared.models.Model.{Model}
 use Rattle.firmware.specs.declared.pile.Pile.{Pile}
 use Rattle.firmware.specs.declared.pile.Pile.TheVariants.{One, Two, Three}
 use Rattle.firmware.specs.Piles.{parts_of}
+use Rattle.variants.specs.declared.own_places.TheConstants.{MOST_OWN_PLACES}
 use Rattle.wording.specs.Outcomes.{counts_of}
 use Rattle.model_wording.specs.declared.model_told.ModelAccount.{ModelAccount}
 use Rattle.model_wording.specs.declared.model_told.ModelTold.{ModelTold}
-use Rattle.model_wording.specs.declared.model_told.TheConstants.{MOST_OWN_PLACES}
 
 -- the model right below the highest one; none where that stands on the base
 abbrev pub below_of : Pile → Option ℕ

@@ -31,7 +31,7 @@ pub struct CutLine<'a>(pub Told<'a>);
 struct ItemText<'a>(Told<'a>);
 
 /// The line of an item's statement.
-pub fn line_of(item: Told) -> Option<usize>
+pub(crate) fn line_of(item: Told) -> Option<usize>
     ensures { result ≡ line_of item.entry }
 {
     item.definition.map(|definition| definition.line)

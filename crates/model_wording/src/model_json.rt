@@ -38,7 +38,7 @@ pub fn model_value(alloc: Global, told: ModelTold) -> Result<Value, AllocError>
 }
 
 // The place of a delivery, or null.
-fn place_value(alloc: Global, statement: Option<DeliveryStatement>) -> Result<Value, AllocError>
+fn statement_value(alloc: Global, statement: Option<DeliveryStatement>) -> Result<Value, AllocError>
     ensures { IfOk result (λ v. view v ≡ place_data statement.entry) }
 {
     let Some(statement) = statement else {
@@ -51,10 +51,7 @@ fn place_value(alloc: Global, statement: Option<DeliveryStatement>) -> Result<Va
 fn order_value(alloc: Global, order: Option<Order>) -> Result<Value, AllocError>
     ensures { IfOk result (λ v. view v ≡ order_data order) }
 {
-    match order {
-        Some(order) => text_value(alloc, Some(order_word(order))),
-        None => Ok(Value::Null),
-    }
+    text_value(alloc, order.map(order_word))
 }
 
 fn orders_object(
@@ -68,8 +65,8 @@ fn orders_object(
     ensures { IfOk result (λ v. view v ≡ orders_object model.now order agree differed.entry parted.entry) }
 {
     let order = order_value(alloc, order)?;
-    let differed = place_value(alloc, differed)?;
-    let parted = place_value(alloc, parted)?;
+    let differed = statement_value(alloc, differed)?;
+    let parted = statement_value(alloc, parted)?;
     json!(in alloc; {
         "kind": "orders",
         "model": model,
@@ -96,7 +93,7 @@ pub fn orders_value(alloc: Global, model: &str, comparison: Comparison) -> Resul
 }
 
 // A path and the line of its statement.
-fn path_value(alloc: Global, path: &[u8], line: Option<usize>) -> Result<Value, AllocError>
+fn path_at_value(alloc: Global, path: &[u8], line: Option<usize>) -> Result<Value, AllocError>
     ensures { IfOk result (λ v. view v ≡ path_data path.now line) }
 {
     let path = String::from_utf8_lossy(alloc, path)?;
@@ -150,7 +147,7 @@ pub fn model_path_value(
 }
 
 // An item and the line of its statement.
-fn item_value(alloc: Global, item: Told) -> Result<Value, AllocError>
+fn declared_value(alloc: Global, item: Told) -> Result<Value, AllocError>
     ensures { IfOk result (λ v. view v ≡ item_data item.entry) }
 {
     let def = ToldText(item);
@@ -178,20 +175,14 @@ fn through_value(
 fn by_value(alloc: Global, holder: Option<Holder>) -> Result<Value, AllocError>
     ensures { IfOk result (λ v. view v ≡ by_data holder.entry) }
 {
-    match holder {
-        Some(holder) => text_value(alloc, Some(by_word(holder.by_name))),
-        None => Ok(Value::Null),
-    }
+    text_value(alloc, holder.map(|holder| by_word(holder.by_name)))
 }
 
 // The line of the statement that brought an entry.
 fn by_line_value(holder: Option<Holder>) -> Value
     ensures { view result ≡ by_line holder.entry }
 {
-    match holder {
-        Some(holder) => line_value(holder.line),
-        None => Value::Null,
-    }
+    line_value(holder.and_then(|holder| holder.line))
 }
 
 fn kept_object(
@@ -225,8 +216,8 @@ pub fn kept_value(
 ) -> Result<Value, AllocError>
     ensures { IfOk result (λ v. view v ≡ kept_data model.now item.entry reason.entry) }
 {
-    let item = item_value(alloc, item)?;
-    let path = path_value(alloc, reason.path, reason.line)?;
+    let item = declared_value(alloc, item)?;
+    let path = path_at_value(alloc, reason.path, reason.line)?;
     let through = through_value(
         alloc,
         namespace_word(reason.namespace),

@@ -15,11 +15,9 @@ use firmware::pile::Pile;
 use hir_def::ModuleDefId;
 use orders::order::Order;
 use std::fmt;
+use variants::MOST_OWN_PLACES;
 use wording::counts::DeliveryCounts;
 use wording::places::DeliveryTold;
-
-/// The most places of its own that a model has.
-pub const MOST_OWN_PLACES: usize = 64;
 
 /// A model by its name, what it stands over (the firmware tree, if that is no model), and how many models its pile has.
 #[derive(Clone, Copy)]
@@ -195,8 +193,8 @@ impl<'a> fmt::Display for ModelLine<'a> {
     }
 }
 
-/// The order for people.
-pub fn order_told(order: Order) -> &'static str
+// The order for people.
+fn order_told(order: Order) -> &'static str
     ensures { result.now ≡ order_told order }
 {
     match order {
@@ -205,8 +203,8 @@ pub fn order_told(order: Order) -> &'static str
     }
 }
 
-/// The order as a word.
-pub fn order_word(order: Order) -> &'static str
+/// The order as a word of a line.
+pub(crate) fn order_word(order: Order) -> &'static str
     ensures { result.now ≡ order_word order }
 {
     match order {

@@ -26,7 +26,7 @@ pub struct ReasonTold<'a> {
 /// The same as words: the line of the path, the namespace, the name and the module of the place, whether a name or a glob brought
 /// the entry, and the line of the statement that did.
 #[derive(Clone, Copy)]
-pub struct ReasonWords<'a>(pub ReasonTold<'a>);
+pub(crate) struct ReasonWords<'a>(pub(crate) ReasonTold<'a>);
 
 // A path and the line of its statement.
 #[derive(Clone, Copy)]
@@ -81,7 +81,7 @@ impl<'s> ReasonTold<'s> {
 }
 
 /// The name of the variant that an entry stands for, if it is one.
-pub fn variant_name<'a>(holder: Option<Holder<'a>>) -> Option<&'a str>
+pub(crate) fn variant_name<'a>(holder: Option<Holder<'a>>) -> Option<&'a str>
     ensures { result ≡ variant_name holder.entry }
 {
     let told = holder?.told;

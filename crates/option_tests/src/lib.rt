@@ -41,6 +41,16 @@ mod tests {
         says(&rt, &["--lines", "a.feq", "-"], "files: [\"a.feq\", \"-\"]")?;
         says(
             &rt,
+            &["a.feq"],
+            "make: Table, rows: None, progress: false, ",
+        )?;
+        says(
+            &rt,
+            &["--make", "ledger", "--rows", "5", "--progress", "a.feq"],
+            "make: Ledger, rows: Some(5), progress: true, ",
+        )?;
+        says(
+            &rt,
             &["--format", "json", "--all", "a.feq"],
             "format: Json, all: true, ",
         )
@@ -56,6 +66,16 @@ mod tests {
             &rt,
             &["--format", "xml", "a.feq"],
             "2 error: invalid value 'xml'",
+        )?;
+        says(
+            &rt,
+            &["--make", "heap", "a.feq"],
+            "2 error: invalid value 'heap'",
+        )?;
+        says(
+            &rt,
+            &["--rows", "many", "a.feq"],
+            "2 error: invalid value 'many'",
         )?;
         says(&rt, &["--lines", "--format", "text", "a.feq"], "2 error: ")
     }

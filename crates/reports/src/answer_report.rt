@@ -48,7 +48,7 @@ fn line_of<'a, 't>(
     }
 }
 
-/// For people: who asks, the entry of each namespace, and what else is answered.
+/// Writes an answer for people: who asks, the entry of each namespace, and what else is answered.
 pub fn write_told<W: io::Write>(
     w: &mut W,
     survey: &Survey,
@@ -63,7 +63,7 @@ pub fn write_told<W: io::Write>(
     write!(w, "{report}")
 }
 
-/// The same as a line.
+/// Writes the same as a line of words.
 pub fn write_line<W: io::Write>(
     w: &mut W,
     survey: &Survey,
@@ -78,7 +78,7 @@ pub fn write_line<W: io::Write>(
     write!(w, "{line}\n")
 }
 
-/// Why a path is not asked.
+/// Writes why a path is not asked.
 pub fn write_refused<W: io::Write>(
     alloc: Global,
     w: &mut W,
@@ -89,11 +89,11 @@ pub fn write_refused<W: io::Write>(
     match form {
         Form::Text => {
             let told = FaultTold(fault);
-            write!(w, "    refused by {told}\n")
+            writeln!(w, "    refused by {told}")
         }
         Form::Lines => {
             let code = fault.code();
-            write!(w, "refused-path {code}\n")
+            writeln!(w, "refused-path {code}")
         }
         Form::Json => {
             let value = refused_path_value(alloc, fault)?;

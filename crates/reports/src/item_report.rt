@@ -1,13 +1,13 @@
 // Writes who may see each item.
 use crate::sights::Sights;
-use crate::style::{FEW, Form, Style};
+use crate::style::{FEW, Form, PROGRESS_STEP, Style};
 use entries::account::Account;
 use firmware::file::Declared;
 use firmware::survey::Survey;
 use hir_def::fault::{Failure, Fault, TreeFault};
 use nameres::Tree;
 use report_json::json::{item_value, refused_value, write_value};
-use std::alloc::{AllocError, Global};
+use std::alloc::Global;
 use std::io;
 use troubles::trouble::FaultTold;
 use wording::items::{ItemTold, RefusedLine, SeenLine, SeenTold};
@@ -34,7 +34,7 @@ fn write_seen<'a, W: io::Write>(
         }
         Form::Lines => {
             let line = SeenLine { names, item, seen };
-            write!(w, "{line}\n")
+            writeln!(w, "{line}")
         }
         Form::Json => {
             let value = item_value(alloc, names, item, seen, style.all)?;
@@ -56,14 +56,14 @@ fn write_refused<W: io::Write>(
         Form::Text => {
             let item = ItemTold { names, item };
             let fault = FaultTold(fault);
-            write!(w, "{item}\n    refused by {fault}\n")
+            writeln!(w, "{item}\n    refused by {fault}")
         }
         Form::Lines => {
             let line = RefusedLine {
                 item,
                 code: fault.code(),
             };
-            write!(w, "{line}\n")
+            writeln!(w, "{line}")
         }
         Form::Json => {
             let value = refused_value(alloc, names, item, fault)?;
@@ -97,7 +97,7 @@ fn write_item<W: io::Write>(
     }
 }
 
-/// Who may see each item, and the counts of it. A list that may be long is not kept.
+/// Writes who may see each item, and answers the counts of it. A list that may be long is not kept.
 pub(crate) fn write_items<W: io::Write, E: io::Write>(
     alloc: Global,
     w: &mut W,
@@ -110,18 +110,17 @@ pub(crate) fn write_items<W: io::Write, E: io::Write>(
     let mut sights = Sights::new(alloc, most);
     let mut account = Account::new();
     for (done, item) in survey.firmware.items.iter().enumerate() {
-        if style.progress && done % 10_000 == 0 {
+        if style.progress && done % PROGRESS_STEP == 0 {
             let all = survey.firmware.items.len();
             writeln!(progress, "{path}: {done} of {all} items")?;
         }
         if most > FEW {
-            match Seen::of(alloc, &survey.tables, item.vis, most) {
-                Ok(seen) => write_item(alloc, w, survey, *item, Ok(&seen), &mut account, style)?,
-                Err(e) => write_item(alloc, w, survey, *item, Err(e), &mut account, style)?,
-            }
+            let seen = Seen::of(alloc, &survey.tables, item.vis, most);
+            let answer = seen.as_ref().map_err(|e| *e);
+            write_item(alloc, w, survey, *item, answer, &mut account, style)?;
         } else {
             let answer = match sights.look(alloc, &survey.tables, item.vis) {
-                Ok(()) => sights.get(item.vis).ok_or(Failure::from(AllocError)),
+                Ok(()) => Ok(sights.get(item.vis).unwrap()),
                 Err(e) => Err(e),
             };
             write_item(alloc, w, survey, *item, answer, &mut account, style)?;

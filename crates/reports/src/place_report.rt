@@ -67,7 +67,7 @@ fn write_holder<W: io::Write>(
     }
 }
 
-/// What holds each place of the base, in the order of modules, names and namespaces.
+/// Writes what holds each place of the base, in the order of modules, names and namespaces.
 pub(crate) fn write_places<I: Index, W: io::Write>(
     alloc: Global,
     w: &mut W,
@@ -84,7 +84,7 @@ pub(crate) fn write_places<I: Index, W: io::Write>(
         if form == Form::Text && !index.get(at, name).is_none() {
             let name = statement.name;
             let module = statement.module;
-            write!(w, "place {name} in {module}\n")?;
+            writeln!(w, "place {name} in {module}")?;
         }
         for namespace in NAMESPACES {
             if let Some(holder) = place_holder(index, definitions, at, name, namespace) {
@@ -107,14 +107,14 @@ fn write_refused_delivery<W: io::Write>(
         Form::Text => {
             let delivery = DeliveryTold(statement);
             let fault = FaultTold(fault);
-            write!(w, "{delivery}\n    refused by {fault}\n")
+            writeln!(w, "{delivery}\n    refused by {fault}")
         }
         Form::Lines => {
             let line = DeliveryLine {
                 statement,
                 code: fault.code(),
             };
-            write!(w, "{line}\n")
+            writeln!(w, "{line}")
         }
         Form::Json => {
             let value = refused_delivery_value(alloc, statement, fault)?;
@@ -123,7 +123,7 @@ fn write_refused_delivery<W: io::Write>(
     }
 }
 
-/// Each delivery that was refused, in the order of the file.
+/// Writes each delivery that was refused, in the order of the file.
 pub fn write_refused_deliveries<W: io::Write>(
     alloc: Global,
     w: &mut W,

@@ -42,12 +42,8 @@ fn write_path_report<W: io::Write>(
     path: &ModPath,
     form: Form,
 ) -> io::Result<()> {
-    let list = &survey.list;
+    let list = survey.list;
     match form {
-        Form::Lines => {
-            let line = PathLine::of(path);
-            write!(w, "{line}\n")
-        }
         Form::Text => {
             let text = text_of(alloc, list, path)?;
             let told = PathTold {
@@ -56,6 +52,10 @@ fn write_path_report<W: io::Write>(
                 path,
             };
             write!(w, "{told}")
+        }
+        Form::Lines => {
+            let line = PathLine::of(path);
+            writeln!(w, "{line}")
         }
         Form::Json => {
             let text = text_of(alloc, list, path)?;
@@ -75,7 +75,7 @@ fn write_account<W: io::Write>(
         Form::Text => write!(w, "{told}"),
         Form::Lines => {
             let line = AccountLine(told);
-            write!(w, "{line}\n")
+            writeln!(w, "{line}")
         }
         Form::Json => {
             let value = account_value(alloc, told)?;

@@ -11,14 +11,13 @@ use hir_def::fault::{Failure, TreeFault};
 use nameres::Tree;
 use std::alloc::Global;
 use std::collections::HashMap;
-use std::hash::{BuildHasherDefault, FoldHasher};
 use wording::seen::Seen;
 
 /// Who sees what has each visibility that came up so far; modules are named where they are no more than `most`.
 #[derive(Drop)]
 pub(crate) struct Sights {
     most: usize,
-    seen: HashMap<Visibility, Seen, BuildHasherDefault<FoldHasher>>,
+    seen: HashMap<Visibility, Seen>,
 }
 
 impl Sights {

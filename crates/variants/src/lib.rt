@@ -8,3 +8,5 @@
 mod namespaced;
 mod own_places;
 pub mod variant;
+
+pub use crate::own_places::MOST_OWN_PLACES;
