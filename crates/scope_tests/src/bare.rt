@@ -1,5 +1,5 @@
 // The smallest index: a tree, and names that stand for nothing. It has no rows, so it refuses every delivery.
-ghost use Rattle.std.specs.Prelude.{◌≡◌, ◌≤◌, refl};
+ghost use Rattle.std.specs.Prelude.{◌≤◌, refl};
 ghost use Rattle.scope_tests.specs.Bare.{bare, bare_sound};
 
 use entries::per_ns::{MacrosItem, PerNs, TypesItem, ValuesItem};

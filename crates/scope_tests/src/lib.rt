@@ -1,9 +1,5 @@
-// Tests of tables by key, of places, and of an index: what is found, what is refused, and who holds a place.
+// A test of the smallest index: one without places and rows.
 #![tactic(auto)]
 
 #[cfg(test)]
 mod bare;
-#[cfg(test)]
-mod places;
-#[cfg(test)]
-mod tables;
