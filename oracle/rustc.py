@@ -59,18 +59,22 @@ fn main() { f() }
     ("absolute-path-of-2015-in-the-extern-prelude", "2015", "E0433", "pub fn f() {}", """
 fn main() { ::other::f() }
 """),
-    ("globs that bring different items", "2021", "E0659", None, """
+    ("macros-of-2015s-crate-root-of-any-kind", "2015", "expected macro, found attribute macro `::x`", None, """
+use std::prelude::v1::test as x;
+fn main() { ::x!() }
+"""),
+    ("two-globs-of-one-name", "2021", "E0659", None, """
 mod a { pub fn x() {} } mod b { pub fn x() {} }
 use a::*; use b::*;
 fn main() { x() }
 """),
-    ("a glob's name against one of an outer scope, in an import", "2021", "E0659", "pub fn f() {}", """
+    ("glob-beside-the-extern-prelude", "2021", "E0659", "pub fn f() {}", """
 mod a { pub mod other { pub fn f() {} } }
 use a::*;
 use other::f;
 fn main() { f() }
 """),
-    ("a legacy macro against a path's", "2021", "E0659", None, """
+    ("legacy-macro-beside-a-paths", "2021", "E0659", None, """
 mod a { #[macro_export] macro_rules! other_m { () => {} } pub use other_m as m; }
 use a::*;
 macro_rules! make { () => { macro_rules! m { () => {} } } }
@@ -78,19 +82,19 @@ make!();
 m!();
 fn main() {}
 """),
-    ("a path through a variant", "2021", "E0433", None, """
+    ("names-after-a-variant", "2021", "E0433", None, """
 enum E { V } mod m { }
 fn main() { E::V::f() }
 """),
-    ("a path through an imported variant", "2021", "E0433", None, """
+    ("names-after-a-variant, of an import", "2021", "E0433", None, """
 enum E { V }
 use E::V;
 fn main() { V::f() }
 """),
-    ("a fallback to a built-in type where a path fails", "2021", "255", None, """
+    ("no-built-in-type-behind-a-module", "2021", "255", None, """
 fn main() { #[allow(unused_imports)] use std::u8; print!("{}", u8::from_str_radix("ff", 16).unwrap()) }
 """),
-    ("of two globs of one item the later one is wider", "2021", "x", None, """
+    ("first-globs-visibility", "2021", "x", None, """
 mod item { pub fn x() { print!("x") } }
 mod all { use crate::item::*; pub mod wide { pub use crate::item::*; } pub use wide::*; }
 fn main() { all::x() }
