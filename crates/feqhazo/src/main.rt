@@ -103,7 +103,7 @@ fn main(rt: HostRuntime) -> io::Result<ExitCode> {
     match report(&rt, &options) {
         Ok(status) => Ok(status),
         Err(error) => {
-            rt.eprintln(error)?;
+            eprintln!(rt; "feqhazo: {error}")?;
             Ok(ExitCode::FAILURE)
         }
     }

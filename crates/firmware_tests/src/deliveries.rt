@@ -51,7 +51,6 @@ fn each_kind(rt: HostRuntime) -> Result<(), Fail> {
         text,
         Form::Lines,
         "seen e a 2 a h\nseen m h 2 a h\nplace e a types enum a::e name 3\nplace v a types variant a::e::v name 8\nplace v a values variant a::e::v name 8\nplace g a types module h name 9\nplace m h macros macro h::m name 5\nplace l h macros macro a::l name 13\naccount 2 2 4 0 0 0 5 0 0\n",
-        true,
     )
 }
 

@@ -1,6 +1,7 @@
 // Card models: what is written of them in each form, and where a model's places run out.
 use crate::written::{TABLE, says, styled, written};
-use reports::style::Form;
+use model_reports::files::{File, report_files};
+use reports::style::{Form, Style};
 use std::test::Fail;
 
 // In `x` a glob and a named import bring an `s` each to one place; `y` stands over it, and one of its deliveries is refused.
@@ -20,7 +21,7 @@ const JSON: &str =
 
 #[test]
 fn models_in_lines(rt: HostRuntime) -> Result<(), Fail> {
-    says(&rt, TWO, Form::Lines, LINES, true)
+    says(&rt, TWO, Form::Lines, LINES)
 }
 
 #[test]
@@ -70,5 +71,29 @@ fn piles_of_three(rt: HostRuntime) -> Result<(), Fail> {
         out.as_str()
             .contains("\nanswer a::c other other - yes - - - - - fn a::p - -\n")
     );
+    Ok(())
+}
+
+// How far the report on both has come.
+const PROGRESS: &[u8] =
+    b"f.feq: 0 of 5 items\nf.feq: model x, 1 of 2\nf.feq: model x, 0 of 2 paths\nf.feq: model y, 2 of 2\nf.feq: model y, 0 of 3 paths\n";
+
+#[test]
+fn progress_is_told(rt: HostRuntime) -> Result<(), Fail> {
+    let alloc = rt.alloc();
+    let files = [File {
+        path: "f.feq",
+        text: Vec::from_slice(alloc, TWO)?,
+    }];
+    let style = Style {
+        progress: true,
+        ..styled(Form::Lines)
+    };
+    let mut out = Vec::new(alloc);
+    let mut told = Vec::new(alloc);
+    let done = report_files(alloc, &mut out, &mut told, &files, style, TABLE);
+    assert!(rt; done.is_ok());
+    assert_eq!(rt; out.as_slice(), LINES.as_bytes());
+    assert_eq!(rt; told.as_slice(), PROGRESS);
     Ok(())
 }

@@ -10,7 +10,6 @@ fn answers(rt: HostRuntime) -> Result<(), Fail> {
         b"crate a 2021\nmodule a::b\nfn s in a::b private\nenum e in a pub\nvariant a::e::v unit\npath crate::b::s from a::b\npath crate::b::s from a\npath crate::e::s from a mode=import shadow=module macro=bang\n",
         Form::Lines,
         "seen s a::b 1 a::b\nseen e a 2 a a::b\nplace b a types module a::b name 2\nplace e a types enum a::e name 4\nplace s a::b values fn a::b::s name 3\npath crate 0 20 21\nanswer a::b other other - yes - - - - - fn a::b::s - -\npath crate 0 20 21\nanswer a other other - yes - - - - - - - - -\npath crate 0 22 21\nanswer a import module bang yes 1 s - enum a::e - - - -\naccount 2 2 3 1 0 3 3 0 0\n",
-        true,
     )
 }
 

@@ -1,18 +1,17 @@
 // Statements and paths that are read, and what is told of bad ones.
-use crate::written::{FEW, TABLE, complain_each, complains, says, styled, written};
+use crate::written::{TABLE, complain_each, complains, says, styled, written};
 use reports::style::Form;
 use std::alloc::AllocError;
 use std::test::Fail;
 
 #[test]
 fn an_empty_file(rt: HostRuntime) -> Result<(), Fail> {
-    says(&rt, b"", Form::Lines, "account 0 0 0 0 0 0 0 0 0\n", true)?;
+    says(&rt, b"", Form::Lines, "account 0 0 0 0 0 0 0 0 0\n")?;
     says(
         &rt,
         b"// nothing\n\n \t\r\n",
         Form::Lines,
         "account 0 0 0 0 0 0 0 0 0\n",
-        true,
     )
 }
 
@@ -22,7 +21,7 @@ fn lines_for_programs(rt: HostRuntime) -> Result<(), Fail> {
         b"crate a 2015\nmodule a::b\nblock a::c\nitem x in a::b private\nitem y in a::c private//last\nitem z in a pub(in #3)";
     let want =
         "seen x a::b 1 a::b\nseen y a::c 3 a a::b a::c\nrefused z a tree 6 0\nplace b a types module a::b name 2\naccount 3 3 4 2 1 0 1 0 0\n";
-    says(&rt, text, Form::Lines, want, true)
+    says(&rt, text, Form::Lines, want)
 }
 
 #[test]
@@ -80,14 +79,12 @@ fn paths_of_each_kind(rt: HostRuntime) -> Result<(), Fail> {
         text,
         Form::Lines,
         "seen u8 a 2 a a::b\nseen x a 2 a a::b\nplace b a types module a::b name 2\npath plain 0 20 21\npath super 0\npath super 1 20\npath super 2 10\npath crate 0\npath abs 0 19 20\naccount 2 2 4 0 0 6 1 0 0\n",
-        true,
     )?;
     says(
         &rt,
         b"crate a 2021\npath crate::a\npath self::super::a\npath self\n",
         Form::Text,
         "path crate::a\n    read as crate: a #19\npath super::a\n    read as super of level 1: a #19\npath self\n    read as super of level 0\n\naccount\n    items                      0\n    modules                    1\n    pairs seen                 0\n    pairs not seen             0\n    items refused              0\n    paths                      3\n    deliveries made            0\n    changed nothing            0\n    deliveries refused         0\n",
-        true,
     )
 }
 
@@ -157,7 +154,12 @@ fn places_that_are_hard_to_show(rt: HostRuntime) -> Result<(), Fail> {
     for _ in 0..40 {
         text.push_str("// a long comment ")?;
     }
-    let (out, _) = written(rt.alloc(), &[("f.feq", text.as_bytes())], FEW, TABLE)?;
+    let (out, _) = written(
+        rt.alloc(),
+        &[("f.feq", text.as_bytes())],
+        styled(Form::Text),
+        TABLE,
+    )?;
     assert_eq!(rt;
         out.as_str(),
         "f.feq:1:169: this is no visibility\n    ...::ba::ba::ba::ba::ba::ba::ba::ba::ba::ba::ba::ba::ba::ba::b wrong // a long comment // a long comment // a long comment // a long comment //...\n                                                                   ^\nexpected a visibility: `pub`, `pub(crate)`, `pub(in MODULE)` or `private`\n"
@@ -174,7 +176,12 @@ fn many_seers(rt: HostRuntime) -> Result<(), Fail> {
     text.push_str(
         "item x in a pub(crate)\nitem y in a::m private\nitem z in a::m::n0 private\nitem w in a pub\n",
     )?;
-    let (out, _) = written(rt.alloc(), &[("f.feq", text.as_bytes())], FEW, TABLE)?;
+    let (out, _) = written(
+        rt.alloc(),
+        &[("f.feq", text.as_bytes())],
+        styled(Form::Text),
+        TABLE,
+    )?;
     assert!(rt;
         out.as_str().starts_with(
             "x in a, pub(crate)\n    seen from all 23 modules of crate a\ny in a::m, private\n    seen from all 22 modules inside a::m\nz in a::m::n0, private\n    seen from 1 of 24: a::m::n0\nw in a, pub\n    seen from all 24 modules\n"
@@ -192,7 +199,6 @@ fn json(rt: HostRuntime) -> Result<(), Fail> {
         text,
         Form::Json,
         "{\"file\":\"f.feq\",\"items\":2,\"kind\":\"file\",\"modules\":2,\"paths\":1}\n{\"count\":1,\"item\":\"x\",\"kind\":\"item\",\"module\":\"a::b\",\"of\":\"a::b\",\"range\":\"inside 1\",\"seers\":null,\"visibility\":\"private\"}\n{\"item\":\"y\",\"kind\":\"refused\",\"layer\":\"tree\",\"module\":\"a\",\"number\":6,\"place\":0,\"visibility\":\"pub(in #9)\",\"why\":\"a module or a crate that the item's visibility names does not exist\"}\n{\"by\":\"name\",\"def\":\"a::b\",\"def_kind\":\"module\",\"kind\":\"place\",\"line\":2,\"module\":\"a\",\"name\":\"b\",\"namespace\":\"types\",\"visibility\":\"private\"}\n{\"kind\":\"path\",\"level\":1,\"names\":[\"b\"],\"numbers\":[20],\"path\":\"super::b\",\"start\":\"super\"}\n{\"changed\":1,\"hidden\":1,\"items\":2,\"kind\":\"account\",\"modules\":2,\"paths\":1,\"refused\":1,\"refused_deliveries\":0,\"seen\":1,\"unchanged\":0}\n",
-        true,
     )
 }
 

@@ -6,12 +6,6 @@ use std::alloc::Global;
 use std::process::Abort;
 use std::test::Fail;
 
-pub(crate) const FEW: Style = Style {
-    form: Form::Text,
-    all: false,
-    progress: false,
-};
-
 // As many rows as the deliveries may need.
 pub(crate) const TABLE: Lending = Lending {
     make: Make::Table,
@@ -55,26 +49,29 @@ pub(crate) fn written(
     }
 }
 
-// What is written for a text, and whether that is the report.
+// The report on a text.
 pub(crate) fn says(
     rt: &(impl Abort + Alloc<A = Global>),
     text: &[u8],
     form: Form,
     want: &str,
-    is_report: bool,
 ) -> Result<(), Fail> {
     let (out, reported) = written(rt.alloc(), &[("f.feq", text)], styled(form), TABLE)?;
-    assert!(rt; reported == is_report);
+    assert!(rt; reported);
     assert_eq!(rt; out.as_str(), want);
     Ok(())
 }
 
+// What is told of a text that is refused.
 pub(crate) fn complains(
     rt: &(impl Abort + Alloc<A = Global>),
     text: &[u8],
     want: &str,
 ) -> Result<(), Fail> {
-    says(rt, text, Form::Text, want, false)
+    let (out, reported) = written(rt.alloc(), &[("f.feq", text)], styled(Form::Text), TABLE)?;
+    assert!(rt; !reported);
+    assert_eq!(rt; out.as_str(), want);
+    Ok(())
 }
 
 // Each text is refused, with what stands beside it.

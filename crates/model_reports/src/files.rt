@@ -128,7 +128,7 @@ fn write_all<W: io::Write, E: io::Write>(
     let headed = files.len() > 1 || style.form == Form::Json;
     for (i, (survey, file)) in surveys.iter().zip(files).enumerate() {
         if i > 0 && style.form == Form::Text {
-            write!(w, "\n")?;
+            writeln!(w)?;
         }
         if headed {
             write_heading(alloc, w, file.path, survey, style.form)?;

@@ -62,6 +62,36 @@ fn write_whole<I: Recipient, W: io::Write, E: io::Write>(
     write_models(alloc, w, progress, path, survey, &*index, style)
 }
 
+fn write_on_table<W: io::Write, E: io::Write>(
+    alloc: Global,
+    w: &mut W,
+    progress: &mut E,
+    path: &str,
+    survey: &Survey,
+    style: Style,
+    count: usize,
+) -> io::Result<()> {
+    let mut rows = vec![in alloc; FREE_PLACE_ROW; count]?;
+    let mut index = TableIndex::new(alloc, Hashers::new(), rows.as_mut_slice())?;
+    loaded(index.load(alloc, tables_of(survey.firmware)))?;
+    write_whole(alloc, w, progress, path, survey, &mut index, style)
+}
+
+fn write_on_ledger<W: io::Write, E: io::Write>(
+    alloc: Global,
+    w: &mut W,
+    progress: &mut E,
+    path: &str,
+    survey: &Survey,
+    style: Style,
+    count: usize,
+) -> io::Result<()> {
+    let mut rows = vec![in alloc; FREE_LEDGER_ROW; count]?;
+    let mut index = LedgerIndex::new(alloc, Hashers::new(), rows.as_mut_slice())?;
+    loaded(index.load(alloc, tables_of(survey.firmware)))?;
+    write_whole(alloc, w, progress, path, survey, &mut index, style)
+}
+
 /// Makes the deliveries of a file's base to an index of its own, and writes the report on it and on the models over it.
 pub fn write_indexed<W: io::Write, E: io::Write>(
     alloc: Global,
@@ -72,20 +102,9 @@ pub fn write_indexed<W: io::Write, E: io::Write>(
     style: Style,
     lending: Lending,
 ) -> io::Result<()> {
-    let tables = tables_of(survey.firmware);
     let count = lending.rows_for(survey);
     match lending.make {
-        Make::Table => {
-            let mut rows = vec![in alloc; FREE_PLACE_ROW; count]?;
-            let mut index = TableIndex::new(alloc, Hashers::new(), rows.as_mut_slice())?;
-            loaded(index.load(alloc, tables))?;
-            write_whole(alloc, w, progress, path, survey, &mut index, style)
-        }
-        Make::Ledger => {
-            let mut rows = vec![in alloc; FREE_LEDGER_ROW; count]?;
-            let mut index = LedgerIndex::new(alloc, Hashers::new(), rows.as_mut_slice())?;
-            loaded(index.load(alloc, tables))?;
-            write_whole(alloc, w, progress, path, survey, &mut index, style)
-        }
+        Make::Table => write_on_table(alloc, w, progress, path, survey, style, count),
+        Make::Ledger => write_on_ledger(alloc, w, progress, path, survey, style, count),
     }
 }

@@ -37,7 +37,7 @@ fn write_model_told<W: io::Write>(
         Form::Text => write!(w, "{told}"),
         Form::Lines => {
             let line = ModelLine(told);
-            write!(w, "{line}\n")
+            writeln!(w, "{line}")
         }
         Form::Json => {
             let value = model_value(alloc, told)?;
@@ -60,7 +60,7 @@ fn write_comparison<W: io::Write>(
         }
         Form::Lines => {
             let line = OrdersLine { model, comparison };
-            write!(w, "{line}\n")
+            writeln!(w, "{line}")
         }
         Form::Json => {
             let value = orders_value(alloc, model, comparison)?;
@@ -78,7 +78,7 @@ fn write_path_text<W: io::Write>(
     let Ask { question, path, .. } = answered.ask;
     let text = text_of(alloc, survey.list, path)?;
     let text = BStr::new(text.as_slice());
-    write!(w, "path {text}\n")?;
+    writeln!(w, "path {text}")?;
     match answered.result {
         Ok(answer) => write_told(w, survey, path, question, answer),
         Err(fault) => write_refused(alloc, w, fault, Form::Text),
@@ -93,7 +93,7 @@ fn write_path_line<W: io::Write>(
 ) -> io::Result<()> {
     let Ask { question, path, .. } = answered.ask;
     let line = PathLine::of(path);
-    write!(w, "{line}\n")?;
+    writeln!(w, "{line}")?;
     match answered.result {
         Ok(answer) => write_line(w, survey, path, question, answer),
         Err(fault) => write_refused(alloc, w, fault, Form::Lines),
@@ -161,7 +161,7 @@ fn write_account<W: io::Write>(
         Form::Text => write!(w, "{account}"),
         Form::Lines => {
             let line = ModelAccountLine(account);
-            write!(w, "{line}\n")
+            writeln!(w, "{line}")
         }
         Form::Json => {
             let value = model_account_value(alloc, account)?;

@@ -22,7 +22,7 @@ use model_runs::model_run::{Made, make_model};
 use model_runs::parts::{asks_of, items_of};
 use model_wording::comparison::Comparison;
 use model_wording::model_told::{ModelAccount, ModelTold};
-use reports::style::Style;
+use reports::style::{PROGRESS_STEP, Style};
 use std::alloc::Global;
 use std::io;
 
@@ -58,7 +58,7 @@ fn answer_all<'s, I: Index, E: io::Write>(
     let mut answers = Vec::new(alloc);
     for ask in asks.iter() {
         let done = answers.len();
-        if style.progress && done % 10_000 == 0 {
+        if style.progress && done % PROGRESS_STEP == 0 {
             let all = asks.len();
             writeln!(progress, "{path}: model {model}, {done} of {all} paths")?;
         }

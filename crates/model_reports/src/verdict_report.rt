@@ -48,7 +48,7 @@ fn write_kept<W: io::Write>(
         Form::Text => write!(w, "{told}"),
         Form::Lines => {
             let line = KeptLine(told);
-            write!(w, "{line}\n")
+            writeln!(w, "{line}")
         }
         Form::Json => {
             let value = kept_value(alloc, model, told.item, told.reason)?;
@@ -73,7 +73,7 @@ fn write_cut<W: io::Write>(
         }
         Form::Lines => {
             let line = CutLine(item);
-            write!(w, "{line}\n")
+            writeln!(w, "{line}")
         }
         Form::Json => {
             let value = cut_value(alloc, model, item)?;

@@ -1,5 +1,5 @@
 // How many answers are alike, differ by each name, and are not as written.
-ghost use Rattle.std.specs.Prelude.{◌≡◌, ℕ, List, IfOk, count_by, unwrap_or};
+ghost use Rattle.std.specs.Prelude.{◌≡◌, ◌≢◌, ℕ, List, Some, IfOk, count_by, unwrap_or};
 ghost use Rattle.std.specs.List.{filter_map};
 ghost use Rattle.std.specs.Str.{bytes_eq};
 ghost use Rattle.std.specs.BTreeMap.{get_by_text};
@@ -29,7 +29,8 @@ fn names<'a>(alloc: Global, verdicts: &[Verdict<'a>]) -> Result<Vec<&'a str>, Al
 }
 
 fn count_each(alloc: Global, names: &[&str]) -> Result<BTreeMap<String, usize>, AllocError>
-    ensures { IfOk result (λ m. (q : List ℕ) → unwrap_or (get_by_text m q) 0 ≡ count_by (λ n. bytes_eq q n.now) names.now) }
+    ensures counted { IfOk result (λ m. (q : List ℕ) → unwrap_or (get_by_text m q) 0 ≡ count_by (λ n. bytes_eq q n.now) names.now) }
+    ensures listed { IfOk result (λ m. (q : List ℕ) → get_by_text m q ≢ Some 0) }
 {
     let mut counts = BTreeMap::new(alloc);
     for name in names {

@@ -75,7 +75,7 @@ pub fn write_line<W: io::Write>(
         (answer_line_text survey.now path.now.names.items question answer)) }
 {
     let line = line_of(survey, path, question, answer);
-    write!(w, "{line}\n")
+    writeln!(w, "{line}")
 }
 
 /// Writes why a path is not asked.

@@ -127,8 +127,8 @@ pub fn write_heading<W: io::Write>(
     ensures { OnOk result (Appends (W.contents w.old) (W.contents w.new) (heading form path.now survey.now)) }
 {
     match form {
-        Form::Text => write!(w, "file {path}\n\n"),
-        Form::Lines => write!(w, "file {path}\n"),
+        Form::Text => writeln!(w, "file {path}\n"),
+        Form::Lines => writeln!(w, "file {path}"),
         Form::Json => {
             let items = survey.firmware.items.len();
             let modules = survey.tables.modules();

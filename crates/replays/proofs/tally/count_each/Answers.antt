@@ -6,4 +6,4 @@ pub overflow_add-counts : goal.overflow_add-counts
 overflow_add-counts c = grind (arith, text_counts)
 
 pub loop-name-preserved : goal.loop-name-preserved
-loop-name-preserved c = grind (arith, text_counts)
+loop-name-preserved c = (grind (arith, text_counts), grind (arith, text_counts))
