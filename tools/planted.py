@@ -230,6 +230,15 @@ def is_read(said):
     return is_proved(said) or re.search(r"^fn \S+: ", said, re.M)
 
 
+# Whether what the bug turns stands once in its file beside what the group brings there.
+def fits(copy, group, bug):
+    text = (copy / "crates" / bug.crate / bug.file).read_text()
+    for other in group:
+        if other.file == bug.file:
+            text = other.turn(text)
+    return all(text.count(old) == 1 for old, _ in bug.pairs)
+
+
 # Plants bugs of one crate at once, and gives each one's verdict, or None where it is to be planted alone; where some do not compile, of
 # these alone.
 def plant(copy, group, log, alone):
@@ -294,7 +303,7 @@ def main():
             group, later = [], []
             for bug in left:
                 taken = any(bug.turns() == other.turns() for other in group)
-                (later if taken else group).append(bug)
+                (group if not taken and fits(copy, group, bug) else later).append(bug)
             left = later
             if len(group) == 1:
                 lone += group
