@@ -26,7 +26,7 @@ use Rattle.indexes.specs.contracts.ledger_index.LedgerKeyPartialEq.TheImpl.{eq-v
 use Rattle.indexes.specs.Spaces.{Space}
 use Rattle.indexes.specs.Told.{key, next, place_of}
 use Rattle.indexes.specs.Storing.{told_of, Comes}
-use Rattle.indexes.specs.Ledger.{turn_key, came, ledger_storing, InTurn}
+use Rattle.indexes.specs.Ledger.{turn_key, came, ledger_storing, FoundByTurn}
 
 laws : IsEquivalence same_key.it
 laws = search rules
@@ -87,7 +87,7 @@ or_none None = refl
 or_none (Some x) = refl
 
 -- the turns go on
-module _ (rows : List (Row LedgerKey Entry)) (k : PlaceKey) (e : Entry) (h : InTurn rows) where
+module _ (rows : List (Row LedgerKey Entry)) (k : PlaceKey) (e : Entry) (h : FoundByTurn rows) where
   abbrev n : ℕ
   n = length (came rows k)
 
@@ -104,8 +104,8 @@ module _ (rows : List (Row LedgerKey Entry)) (k : PlaceKey) (e : Entry) (h : InT
       ∙ rw (h k turn, laws.refl k) (sym (get_behind (came rows k) e turn))
       ∙ ap (λ es. slice_get es turn) (sym c)
 
-  pub in_turn_behind : InTurn more
-  in_turn_behind q turn =
+  pub found_behind : FoundByTurn more
+  found_behind q turn =
       elim (same_key.it q k) as (λ b. same_key.it q k ≡ b → find same_turn.it more (turn_key q turn) ≡ slice_get (came more q) turn) [
         | true ↦ λ is. subst (λ p. find same_turn.it more (turn_key p turn) ≡ slice_get (came more p) turn) (sym (exact q k is)) (here turn)
         | false ↦ λ is.
@@ -114,14 +114,14 @@ module _ (rows : List (Row LedgerKey Entry)) (k : PlaceKey) (e : Entry) (h : InT
             found q turn ∙ rw other (or_none (find same_turn.it rows (turn_key q turn))) ∙ h q turn ∙ ap (λ es. slice_get es turn) (sym c)
       ] refl
 
-none_yet : (rows : List (Row LedgerKey Entry)) (k : PlaceKey) → InTurn rows → find same_turn.it rows (turn_key k (length (came rows k))) ≡ None
+none_yet : (rows : List (Row LedgerKey Entry)) (k : PlaceKey) → FoundByTurn rows → find same_turn.it rows (turn_key k (length (came rows k))) ≡ None
 none_yet rows k h = h k (length (came rows k)) ∙ slice_get_past (came rows k) (length (came rows k)) (omega arith)
 
 one_less : (free : List (Row LedgerKey Entry)) → 0 < length free → length free ≡ length (drop 1 free) + 1
 one_less (r ∷ free) l = omega arith
 one_less [] l = absurd (omega arith)
 
-module _ {T : Type 0} (space : Space T) (before after : Contents LedgerKey Entry) (m : ModuleId) (n : Name) (x : T) (h : InTurn before.entries) where
+module _ {T : Type 0} (space : Space T) (before after : Contents LedgerKey Entry) (m : ModuleId) (n : Name) (x : T) (h : FoundByTurn before.entries) where
   abbrev k : PlaceKey
   k = key space.namespace m n
 
@@ -129,9 +129,9 @@ module _ {T : Type 0} (space : Space T) (before after : Contents LedgerKey Entry
   turn_of = length (came before.entries k)
 
   -- the turns after an insertion
-  pub inserted_in_turn : (q : LedgerKey) (e : Entry) (r : Result (Unit {0}) NotTaken) → q ≡ turn_key k turn_of → OnOk r (after.entries ≡ before.entries ++ row q e ∷ []) → OnErr r (after ≡ before) → InTurn after.entries
-  inserted_in_turn q e (Ok u) is entries err = rw (entries, is) (in_turn_behind before.entries k e h)
-  inserted_in_turn q e (Err f) is entries err = rw err h
+  pub inserted_found : (q : LedgerKey) (e : Entry) (r : Result (Unit {0}) NotTaken) → q ≡ turn_key k turn_of → OnOk r (after.entries ≡ before.entries ++ row q e ∷ []) → OnErr r (after ≡ before) → FoundByTurn after.entries
+  inserted_found q e (Ok u) is entries err = rw (entries, is) (found_behind before.entries k e h)
+  inserted_found q e (Err f) is entries err = rw err h
 
   -- what it does
   pub inserted : (place : Place T) (step : Stepped T) (q : LedgerKey) (e : Entry) (r : Result (Unit {0}) NotTaken) → 0 < length before.free

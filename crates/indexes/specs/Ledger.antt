@@ -24,5 +24,5 @@ ledger_storing = record {
 }
 
 -- each entry is found by its place and by how many came there before it
-abbrev pub InTurn : List (Row LedgerKey Entry) → Type 0
-InTurn rows = (k : PlaceKey) (turn : ℕ) → find same_turn.it rows (turn_key k turn) ≡ slice_get (came rows k) turn
+abbrev pub FoundByTurn : List (Row LedgerKey Entry) → Type 0
+FoundByTurn rows = (k : PlaceKey) (turn : ℕ) → find same_turn.it rows (turn_key k turn) ≡ slice_get (came rows k) turn

@@ -6,7 +6,7 @@ ghost use Rattle.index_tables.specs.IndexRows.{data_from};
 ghost use Rattle.index_tables.specs.LoadedTables.{no_index_rows};
 ghost use Rattle.indexes.specs.Told.{key};
 ghost use Rattle.indexes.specs.Storing.{told_of, all_free};
-ghost use Rattle.indexes.specs.Ledger.{ledger_storing, came, InTurn};
+ghost use Rattle.indexes.specs.Ledger.{ledger_storing, came, FoundByTurn};
 
 use crate::entry::{Entry, FREE_ENTRY, FREE_KEY, PlaceKey};
 use crate::namespaced::{Namespaced, next, place_key};
@@ -47,7 +47,7 @@ pub const FREE_LEDGER_ROW: LedgerRow = Row {
 #[derive(Drop)]
 pub struct LedgerRows<'a, S: BuildHasher> {
     table: Table<&'a mut [LedgerRow], S>,
-    ghost in_turn: { InTurn table.entries },
+    ghost found_by_turn: { FoundByTurn table.entries },
 }
 
 // What the entries that came to a place make of it, and how many they are.

@@ -206,6 +206,12 @@ impl<'a, R: PlaceRows, S: BuildHasher> Index for RowIndex<'a, R, S> {
 }
 
 impl<'a, R: PlaceRows, S: BuildHasher> Recipient for RowIndex<'a, R, S> {
+    ghost use Rattle.indexes.specs.RowIndexes.{Delivers};
+
+    ghost delivers = { λ x d r y. Delivers x d r y };
+
+    ghost like_any = { λ x d r y h. h.takes };
+
     fn push_res_with_import(
         &mut self,
         receiver: ModuleId,

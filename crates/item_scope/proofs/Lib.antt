@@ -1,2 +1,4 @@
+pub mod Held
+pub mod InTurn
 pub mod Shadowed
 pub mod Taken

@@ -1,5 +1,7 @@
 pub mod Deliveries
 pub mod Globs
+pub mod Holding
+pub mod InTurn
 pub mod IndexData
 pub mod Places
 pub mod Shadowing

@@ -1,5 +1,7 @@
 // An index: a module tree with more to tell, and places that deliveries fill.
-ghost use Rattle.std.specs.Prelude.{◌≡◌, ℕ};
+ghost use Rattle.std.specs.Prelude.{◌≡◌, ℕ, Bool, Result};
+ghost use Rattle.hir_def.specs.declared.fault.IndexFault.{IndexFault};
+ghost use Rattle.item_scope.specs.declared.delivery.Delivery.{Delivery};
 ghost use Rattle.item_scope.specs.Views.{View, Sound, entries_at};
 ghost use Rattle.item_scope.specs.Deliveries.{delivery_of, Takes};
 
@@ -91,6 +93,9 @@ pub trait Index: Tree {
 
 /// An index to which deliveries can be made.
 pub trait Recipient: Index {
+    // What a delivery does, by the index's own rule: it answers so, and is such an index then, in all its rows.
+    ghost delivers: { Self → Delivery → Result Bool IndexFault → Self → Type 0 };
+
     /// Takes a delivery in, part by part, or refuses it; see `deliver`.
     fn push_res_with_import(
         &mut self,
@@ -101,14 +106,20 @@ pub trait Recipient: Index {
         macros: Option<MacrosItem>,
         import: Option<ImportOrExternCrate>,
     ) -> Result<bool, IndexFault>
-        ensures { let d = delivery_of receiver name types values macros import in
-            Takes (Self.view self.old) (Self.left self.old) d result (Self.view self.new) (Self.left self.new) };
+        ensures takes { let d = delivery_of receiver name types values macros import in
+            Takes (Self.view self.old) (Self.left self.old) d result (Self.view self.new) (Self.left self.new) }
+        ensures delivers { delivers self.old (delivery_of receiver name types values macros import) result self.new };
+
+    // A law: it does what a delivery does on every index.
+    ghost like_any: { (x : Self) → (d : Delivery) → (r : Result Bool IndexFault) → (y : Self) → delivers x d r y
+        → Takes (Self.view x) (Self.left x) d r (Self.view y) (Self.left y) };
 }
 
 /// Takes the entries of a delivery in by the four steps, and answers whether any namespace changed; or refuses the delivery, and
 /// changes nothing.
 pub fn deliver<I: Recipient>(index: &mut I, delivery: Delivery) -> Result<bool, IndexFault>
-    ensures { Takes (I.view index.old) (I.left index.old) delivery result (I.view index.new) (I.left index.new) }
+    ensures takes { Takes (I.view index.old) (I.left index.old) delivery result (I.view index.new) (I.left index.new) }
+    ensures delivers { I.delivers index.old delivery result index.new }
 {
     let entries = delivery.entries;
     index.push_res_with_import(

@@ -3,6 +3,7 @@
 // if that stood for another def.
 ghost use Rattle.std.specs.Prelude.{◌≡◌, Bool};
 ghost use Rattle.item_scope.specs.Globs.{wide_glob, narrow_glob, by_glob};
+ghost use Rattle.item_scope.specs.Holding.{KeepsNames};
 ghost use Rattle.item_scope.specs.Places.{tests, takes, held, stepped, replayed};
 ghost use Rattle.item_scope.specs.Shadowing.{Shadows};
 
@@ -91,13 +92,15 @@ pub fn step<Def: LawfulEq, Import: ImportKind>(
     }
 }
 
-/// The place when the entries have come one by one. What came by name holds it against every glob.
+/// The place when the entries have come one by one. What came by name holds it against every glob, and gives way only to what
+/// its own import brings later, for another def.
 pub fn replay<Def: LawfulEq, Import: ImportKind>(
     place: Place<Item<Def, Import>>,
     came: &[Item<Def, Import>],
 ) -> Place<Item<Def, Import>>
     ensures value { result ≡ replayed (tests Def.PartialEq.eq Import.globs Import.PartialEq.eq) place came.now }
     ensures shadows { Shadows (λ e. by_glob Import.globs e.import) place came.now result }
+    ensures keeps { KeepsNames (λ e. by_glob Import.globs e.import) place came.now result }
 {
     came.iter()
         .fold(place, |place, new| step(place, *new).place)

@@ -1,6 +1,6 @@
 // The deliveries of a list on two indexes: in their order on the one, and reordered on the other.
 ghost use Rattle.std.specs.Prelude.{◌≡◌, ◌≤◌, IfOk, OnErr, length, vec_len, vec_capacity};
-ghost use Rattle.runs.specs.Compared.{Tried};
+ghost use Rattle.runs.specs.Compared.{Tried, MadeWith};
 ghost use Rattle.runs.specs.Runs.{state};
 ghost use Rattle.orders.specs.Agreements.{agreement_of, AgreementLaw};
 ghost use Rattle.orders.specs.Orders.{calls_of, reordered, other_order};
@@ -74,6 +74,8 @@ fn compare_lists<'a, I: Recipient, J: Recipient>(
         question path.now further result.1.first (state (I.view first.new) (I.left first.new)) }
     ensures second { Tried (state (J.view second.old) (J.left second.old)) other.old other.new
         question path.now further result.1.second (state (J.view second.new) (J.left second.new)) }
+    ensures made_first { MadeWith I.delivers first.old given.new further result.1.first first.new }
+    ensures made_second { MadeWith J.delivers second.old other.new further result.1.second second.new }
     ensures agreement { result.0 ≡ agreement_of (reordered order given.new) other.new }
     ensures agree { AgreementLaw (I.view first.old) (J.view second.old) result.0 given.new other.new
         result.1.first.before result.1.second.before }
@@ -102,6 +104,9 @@ pub fn compare_orders<I: Recipient, J: Recipient>(
     ensures second { IfOk result (λ o. let other = reordered o.order (calls_of deliveries.now) in
         Tried (state (J.view second.old) (J.left second.old)) other o.second.items
         question path.now further o.compared.second (state (J.view second.new) (J.left second.new))) }
+    // And of the index itself, by its own rule.
+    ensures made_first { IfOk result (λ o. MadeWith I.delivers first.old o.first.items further o.compared.first first.new) }
+    ensures made_second { IfOk result (λ o. MadeWith J.delivers second.old o.second.items further o.compared.second second.new) }
     ensures agreement { IfOk result (λ o. o.agreement ≡ agreement_of (reordered o.order o.first.items) o.second.items) }
     // Indexes that began alike and took the same deliveries answer every question alike.
     ensures agree { IfOk result (λ o. AgreementLaw (I.view first.old) (J.view second.old) o.agreement

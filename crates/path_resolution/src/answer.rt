@@ -27,7 +27,7 @@ pub struct ResolvePathResultPrefixInfo {
 pub struct ResolvePathResult {
     pub resolved_def: PerNs,
     /// The index in the path of a name that the type before it does not have, where that type is kept: it is no module and has no such
-    /// variant. Else none, as where all names were resolved, or nothing was.
+    /// variant. Else none, as where all names were resolved, or nothing was. Of two answers that are merged the larger one.
     pub segment_index: Option<usize>,
     pub reached_fixedpoint: ReachedFixedPoint,
     pub prefix_info: ResolvePathResultPrefixInfo,

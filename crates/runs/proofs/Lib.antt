@@ -1,4 +1,5 @@
 pub mod Chained
+pub mod Kept
 pub mod Laws
 pub mod Made
 pub mod Ordered

@@ -18,6 +18,7 @@ use Rattle.entries.specs.declared.visibility.Visibility.{Visibility}
 use Rattle.entries.specs.declared.visibility.Visibility.TheVariants.{Public}
 use Rattle.entries.specs.Visibilities.{Sees, visible, named, chain_of, inside, settled}
 use Rattle.entries.proofs.Visible.{visible_decides}
+use Rattle.item_scope.specs.InTurn.InTurn.{done, next}
 use Rattle.item_scope.specs.declared.index_data.EnumVariant.{EnumVariant}
 use Rattle.item_scope.specs.declared.place.Place.{Place}
 use Rattle.item_scope.specs.declared.place.Place.TheVariants.{ByName}
@@ -39,7 +40,6 @@ use Rattle.runs.specs.Chains.Leads.{here, through, nowhere}
 use Rattle.runs.specs.Order.{Agree}
 use Rattle.runs.specs.declared.calls.Call.TheVariants.{Deliver}
 use Rattle.runs.specs.Runs.{State, state, Did, Ran}
-use Rattle.runs.specs.Runs.Ran.{done, next}
 use Rattle.runs.specs.SmallTree.{Lawful, names, Decides, Chains, Hides, brings_g, Reorders}
 use Rattle.runs.specs.Spaces as space
 use Rattle.runs.proofs.Chained.{never-empty, chain-law}
@@ -332,7 +332,7 @@ two-come v f g i j a b e k =
     let d = brings_g f Public i in
     let h = brings_g g Public j in (
       state (delivered (delivered v d) h) 0,
-      next {m = state (delivered v d) 1} (g-comes v 1 f i a e) (next {m = state (delivered (delivered v d) h) 0} (g-comes (delivered v d) 0 g j b k) done),
+      next {y = state (delivered v d) 1} (g-comes v 1 f i a e) (next {y = state (delivered (delivered v d) h) 0} (g-comes (delivered v d) 0 g j b k) done),
     )
 
 pub reorders : Reorders

@@ -1,6 +1,7 @@
 pub mod Chains
 pub mod Compared
 pub mod Hidden
+pub mod Kept
 pub mod Order
 pub mod Runs
 pub mod Shadowed

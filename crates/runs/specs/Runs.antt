@@ -1,11 +1,13 @@
 -- Runs: calls that were made one after the other, and what an index tells after them.
-use Rattle.std.specs.Prelude.{◌≡◌, ℕ, ◌&&◌, if◌then◌else◌, List, [], ◌∷◌, Some, None, Ok, Err, Option, ◌==◌}
+use Rattle.std.specs.Prelude.{◌≡◌, ℕ, Bool, ◌&&◌, if◌then◌else◌, List, [], ◌∷◌, Some, None, Ok, Err, Option, Result, ◌==◌}
 use Rattle.std.specs.List.{fold, flat_map}
 use Rattle.hir_def.specs.declared.ModuleId.{ModuleId}
 use Rattle.hir_def.specs.declared.Name.{Name}
+use Rattle.hir_def.specs.declared.fault.IndexFault.{IndexFault}
 use Rattle.entries.specs.declared.per_ns.Item.{Item}
 use Rattle.item_scope.specs.declared.delivery.Delivery.{Delivery}
 use Rattle.item_scope.specs.Deliveries.{brought, delivered, Takes}
+use Rattle.item_scope.specs.InTurn.{InTurn}
 use Rattle.item_scope.specs.Views.{View}
 use Rattle.path_resolution.specs.Questions.{answered}
 use Rattle.runs.specs.declared.calls.Call.{Call}
@@ -28,9 +30,19 @@ Did s (Deliver d None) t = ⊥
 Did s (Ask q path None) t = ⊥
 
 -- the calls were made in their order, the refused ones too
-pub data Ran : State → List Call → State → Type 0 where
-  done : {s : State} → Ran s [] s
-  next : {s m t : State} {c : Call} {cs : List Call} → Did s c m → Ran m cs t → Ran s (c ∷ cs) t
+abbrev pub Ran : State → List Call → State → Type 0
+Ran = InTurn Did
+
+-- a call that was made, between an index before and after it, of which Delivers is its own rule of a delivery
+abbrev pub Does : {I : Type 0} → (I → Delivery → Result Bool IndexFault → I → Type 0) → I → Call → I → Type 0
+Does Delivers x (Deliver d (Some r)) y = Delivers x d r y
+Does Delivers x (Ask q path (Some r)) y = y ≡ x
+Does Delivers x (Deliver d None) y = ⊥
+Does Delivers x (Ask q path None) y = ⊥
+
+-- the calls made the one of the other, in their order, and nothing else did
+abbrev pub Made : {I : Type 0} → (I → Delivery → Result Bool IndexFault → I → Type 0) → I → List Call → I → Type 0
+Made Delivers = InTurn (Does Delivers)
 
 -- a call without what came of it
 abbrev pub unmade : Call → Call

@@ -1,6 +1,7 @@
 // Calls of an index, made one by one.
 ghost use Rattle.std.specs.Prelude.{◌≡◌, map};
-ghost use Rattle.runs.specs.Runs.{state, Did, Ran, unmade, told_after};
+ghost use Rattle.runs.specs.Kept.{KeepsHolders};
+ghost use Rattle.runs.specs.Runs.{state, Did, Ran, Does, Made, unmade, told_after};
 ghost use Rattle.runs.specs.Shadowed.{ShadowsGlobs};
 
 use hir_def::fault::{IndexFault, PathFault};
@@ -23,6 +24,7 @@ pub enum Call<'a> {
 // Makes the call.
 fn make<'a, I: Recipient>(index: &mut I, call: Call<'a>) -> Call<'a>
     ensures did { Did (state (I.view index.old) (I.left index.old)) result (state (I.view index.new) (I.left index.new)) }
+    ensures does { Does I.delivers index.old result index.new }
     ensures same { unmade result ≡ unmade call.entry }
 {
     match call {
@@ -35,12 +37,16 @@ fn make<'a, I: Recipient>(index: &mut I, call: Call<'a>) -> Call<'a>
 }
 
 /// Makes the calls in their order, and writes beside each what came of it.
-#[tactic(auto, using(crate::proofs::Made::ran_none, crate::proofs::Made::ran_on, crate::proofs::Made::unmade_set, crate::proofs::Made::ran_told, crate::proofs::Shadowed::ran_shadows, std::proofs::lemmas::List::take_all))]
+#[tactic(auto, using(crate::proofs::Made::none_made, crate::proofs::Made::next_made, crate::proofs::Made::unmade_set, crate::proofs::Made::ran_told, crate::proofs::Shadowed::ran_shadows, crate::proofs::Kept::ran_keeps, std::proofs::lemmas::List::take_all))]
 pub fn run<I: Recipient>(index: &mut I, calls: &mut [Call<'_>])
     ensures ran { Ran (state (I.view index.old) (I.left index.old)) calls.new (state (I.view index.new) (I.left index.new)) }
+    // Of the index itself: each delivery did what the index's own rule says, and nothing else did anything.
+    ensures made { Made I.delivers index.old calls.new index.new }
     ensures after { I.view index.new ≡ told_after (I.view index.old) calls.new }
     // At each place items and named imports shadow what globs brought.
     ensures shadows { ShadowsGlobs (I.view index.old) calls.new (I.view index.new) }
+    // And what holds one by name gives way only to what its own import brings.
+    ensures keeps { KeepsHolders (I.view index.old) calls.new (I.view index.new) }
     ensures same { map unmade calls.new ≡ map unmade calls.old }
 {
     for call in calls.iter_mut() {

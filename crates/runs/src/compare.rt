@@ -1,7 +1,7 @@
 // The order law, the chain law and the hidden law, on one call.
 ghost use Rattle.std.specs.Prelude.{◌≡◌};
 ghost use Rattle.runs.specs.Chains.{ChainLaw};
-ghost use Rattle.runs.specs.Compared.{Tried};
+ghost use Rattle.runs.specs.Compared.{Tried, MadeWith};
 ghost use Rattle.runs.specs.Hidden.{HiddenLaw};
 ghost use Rattle.runs.specs.Order.{OrderLaw};
 ghost use Rattle.runs.specs.Runs.{state, told_after};
@@ -31,7 +31,7 @@ pub struct Compared {
 }
 
 // Makes the calls, asks the question, makes the further delivery, and asks again.
-#[tactic(auto, using(crate::proofs::Made::ran_more, crate::proofs::Made::answered_told))]
+#[tactic(auto, using(crate::proofs::Made::more_made, crate::proofs::Made::answered_told))]
 fn run_and_ask<I: Recipient>(
     index: &mut I,
     calls: &mut [Call<'_>],
@@ -40,6 +40,7 @@ fn run_and_ask<I: Recipient>(
     further: Delivery,
 ) -> Outcome
     ensures tried { Tried (state (I.view index.old) (I.left index.old)) calls.old calls.new question path.now further result (state (I.view index.new) (I.left index.new)) }
+    ensures made { MadeWith I.delivers index.old calls.new further result index.new }
 {
     run(index, calls);
     let before = resolve_path_fp_with_macro(index, question, path);
@@ -66,6 +67,9 @@ pub fn compare_runs<I: Recipient, J: Recipient>(
     // What was done to each index, and what it answered.
     ensures first { Tried (state (I.view first.old) (I.left first.old)) first_calls.old first_calls.new question path.now further result.first (state (I.view first.new) (I.left first.new)) }
     ensures second { Tried (state (J.view second.old) (J.left second.old)) second_calls.old second_calls.new question path.now further result.second (state (J.view second.new) (J.left second.new)) }
+    // And of the index itself, by its own rule.
+    ensures made_first { MadeWith I.delivers first.old first_calls.new further result.first first.new }
+    ensures made_second { MadeWith J.delivers second.old second_calls.new further result.second second.new }
 
     // The order law: indexes that began alike, and whose places took the same, answer every question alike.
     ensures order { OrderLaw (I.view first.old) (J.view second.old) first_calls.new second_calls.new result.first.before result.second.before }

@@ -1,5 +1,6 @@
 // The smallest index: a tree, and names that stand for nothing. It has no rows, so it refuses every delivery.
 ghost use Rattle.std.specs.Prelude.{◌≤◌, refl};
+ghost use Rattle.item_scope.specs.Deliveries.{Takes};
 ghost use Rattle.scope_tests.specs.Bare.{bare, bare_sound};
 
 use entries::per_ns::{MacrosItem, PerNs, TypesItem, ValuesItem};
@@ -147,6 +148,11 @@ impl<'a, T: Tree> Index for Bare<'a, T> {
 }
 
 impl<'a, T: Tree> Recipient for Bare<'a, T> {
+    // It has no rows.
+    ghost delivers = { λ x d r y. Takes (bare (T.shape x.tree.now) x.names) 0 d r (bare (T.shape y.tree.now) y.names) 0 };
+
+    ghost like_any = { λ x d r y h. h };
+
     fn push_res_with_import(
         &mut self,
         receiver: ModuleId,

@@ -1,3 +1,4 @@
+pub mod Delivered
 pub mod Rows
 pub mod Tags
 pub mod Told

@@ -1,5 +1,5 @@
 -- Places of one's own in rows, what an index with such rows over another one tells, and what deliveries make of them.
-use Rattle.std.specs.Prelude.{ℕ, ◌+◌, Bool, false, if◌then◌else◌, ◌&&◌, ◌||◌, ◌==◌, List, [], ◌∷◌, is_some, Some, None, Option}
+use Rattle.std.specs.Prelude.{ℕ, ◌+◌, ◌-◌, Bool, false, if◌then◌else◌, ◌&&◌, ◌||◌, ◌==◌, List, [], ◌∷◌, length, is_some, Some, None, Option}
 use Rattle.std.specs.Option.{option_map_or}
 use Rattle.hir_def.specs.declared.ModuleId.{ModuleId}
 use Rattle.hir_def.specs.declared.Name.{Name}
@@ -7,7 +7,7 @@ use Rattle.item_scope.specs.declared.delivery.Delivery.{Delivery}
 use Rattle.item_scope.specs.declared.place.Place.{Place}
 use Rattle.item_scope.specs.Places.{takes, stepped}
 use Rattle.item_scope.specs.Views.{Types, Values, Macros, Places, View}
-use Rattle.item_scope.specs.Deliveries.{brought}
+use Rattle.item_scope.specs.Deliveries.{brought, refused}
 use Rattle.variants.specs.declared.own_places.AnyPlace.{AnyPlace}
 use Rattle.variants.specs.declared.own_places.OwnPlace.{OwnPlace}
 use Rattle.variants.specs.Spaces.{Space, type_space, value_space, macro_space}
@@ -76,3 +76,11 @@ copies rows d =
     copied type_space rows d.receiver d.name (brought d).types
     + copied value_space rows d.receiver d.name (brought d).values
     + copied macro_space rows d.receiver d.name (brought d).macros
+
+-- the rows when a delivery was made to an index with the rows over one that tells v: refused, it leaves them as they are
+abbrev pub rows_after : View → List OwnPlace → Delivery → List OwnPlace
+rows_after v rows d =
+    let w = overlaid v rows in
+    let m = d.receiver in
+    let n = d.name in
+    if is_some (refused w (64 - length rows) d) then rows else came_all (w.types m n) (w.values m n) (w.macros m n) rows d

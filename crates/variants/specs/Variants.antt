@@ -1,5 +1,5 @@
 -- What a variant tells, the places that it has of its own, and the index below it.
-use Rattle.std.specs.Prelude.{◌≡◌, ℕ, ◌+◌, ◌-◌, Bool, if◌then◌else◌, List, Result, length}
+use Rattle.std.specs.Prelude.{◌≡◌, ℕ, ◌+◌, ◌-◌, Bool, if◌then◌else◌, List, Result, length, is_ok}
 use Rattle.nameres.specs.declared.Tree as tree
 use Rattle.hir_def.specs.declared.fault.IndexFault.{IndexFault}
 use Rattle.item_scope.specs.declared.delivery.Delivery.{Delivery}
@@ -43,3 +43,8 @@ module _ {I : Type 0} {index : index.Ghosts I} {tree : tree.Ghosts I} where
     pub rows : own_in after ≡ (if taken then own_after before d else own_in before)
     -- a free row is used for each place that is copied
     pub left : left_in before ≡ left_in after + (if taken then copies (own_in before) d else 0)
+
+  -- what a delivery to the variant does
+  pub record Delivers (before : Variant I index tree) (d : Delivery) (result : Result Bool IndexFault) (after : Variant I index tree) : Type 0 where
+    pub takes : Receives before d result after
+    pub copies : Copies before d (is_ok result) after

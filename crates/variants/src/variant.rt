@@ -181,6 +181,12 @@ impl<'a, I: Index> Index for Variant<'a, I> {
 }
 
 impl<'a, I: Index> Recipient for Variant<'a, I> {
+    ghost use Rattle.variants.specs.Variants.{Delivers};
+
+    ghost delivers = { λ x d r y. Delivers x d r y };
+
+    ghost like_any = { λ x d r y h. h.takes };
+
     fn push_res_with_import(
         &mut self,
         receiver: ModuleId,

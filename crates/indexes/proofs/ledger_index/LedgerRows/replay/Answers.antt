@@ -8,7 +8,7 @@ pub loop-turn-preserved : goal.loop-turn-preserved
 loop-turn-preserved g c =
     let s = c.args.self.now in
     let k = c.place_key-key.result in
-    let is : slice_get (came s.table.entries k) c.loop-turn.turn ≡ Some c.in-Some.entry = sym (s.in_turn k c.loop-turn.turn) ∙ sym c.in-Some.ensures in
+    let is : slice_get (came s.table.entries k) c.loop-turn.turn ≡ Some c.in-Some.entry = sym (s.found_by_turn k c.loop-turn.turn) ∙ sym c.in-Some.ensures in
     let more = one_more g.T.Namespaced.space (came s.table.entries k) c.loop-turn.turn c.in-Some.entry is in
     (c.next-place.ensures ∙ ap (λ p. next g.T.Namespaced.space p c.in-Some.entry) c.loop-turn.invariant.0 ∙ more.0, more.1)
 
