@@ -1,5 +1,8 @@
 -- What the deliveries of a file make of an index, one after the other.
-use Rattle.std.specs.Prelude.{◌≡◌, ℕ, List, [], ◌∷◌}
+use Rattle.std.specs.Prelude.{◌≡◌, ℕ, Bool, List, [], ◌∷◌, Result}
+use Rattle.hir_def.specs.declared.fault.IndexFault.{IndexFault}
+use Rattle.item_scope.specs.declared.delivery.Delivery.{Delivery}
+use Rattle.item_scope.specs.InTurn.{InTurn}
 use Rattle.item_scope.specs.Views.{View}
 use Rattle.item_scope.specs.Deliveries.{Takes}
 use Rattle.firmware.specs.declared.file.DeliveryStatement.{DeliveryStatement}
@@ -12,3 +15,7 @@ Ran v left [] (o ∷ os) v' left' = ⊥
 Ran v left (s ∷ ss) [] v' left' = ⊥
 Ran v left (s ∷ ss) (o ∷ os) v' left' =
     (o.statement ≡ s) × ((w : View) × ((l : ℕ) × (Takes v left s.delivery o.result w l × Ran w l ss os v' left')))
+
+-- the deliveries made the one index of the other, by its own rule of a delivery
+abbrev pub Made : {I : Type 0} → (I → Delivery → Result Bool IndexFault → I → Type 0) → I → List Outcome → I → Type 0
+Made Delivers = InTurn (λ x o y. Delivers x o.statement.delivery o.result y)

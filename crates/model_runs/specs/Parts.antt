@@ -1,23 +1,14 @@
--- What a part of a file declares: its items, its deliveries, and which paths it asks.
-use Rattle.std.specs.Prelude.{ℕ, ◌-◌, List, Option, vec_items, slice_range}
+-- Which paths a part of a file asks.
+use Rattle.std.specs.Prelude.{ℕ, ◌-◌, List, Option, vec_items}
 use Rattle.std.specs.List.{slice_get, filter_map, range_with_len}
 use Rattle.std.specs.Option.{option_map, option_and_then, option_flatten}
 use Rattle.std.specs.declared.ops.Range.{Range}
-use Rattle.hir_def.specs.declared.ModuleDefId.{ModuleDefId}
 use Rattle.path_resolution.specs.declared.question.Question.{Question}
 use Rattle.path_text.specs.declared.mod_path.ModPath.{ModPath}
 use Rattle.cuts.specs.declared.asked.Ask.{Ask}
 use Rattle.firmware.specs.declared.pile.Part.{Part}
-use Rattle.firmware.specs.declared.file.DeliveryStatement.{DeliveryStatement}
-use Rattle.firmware.specs.declared.file.Firmware.{Firmware}
 use Rattle.firmware.specs.declared.survey.Survey.{Survey}
 use Rattle.firmware.specs.Models.{began, ended, paths_between}
-
-abbrev pub items_in : Firmware → Part → List ModuleDefId
-items_in f part = slice_range (vec_items f.definitions.of_a_kind) (began f part).items (ended f part).items
-
-abbrev pub deliveries_in : Firmware → Part → List DeliveryStatement
-deliveries_in f part = slice_range (vec_items f.deliveries) (began f part).deliveries (ended f part).deliveries
 
 -- what is asked: a path's number among those of the file, who asks, and the path
 abbrev pub Asking : Type 0

@@ -3,10 +3,10 @@ ghost use Rattle.std.specs.Prelude.{◌≡◌, IfOk, vec_items, map, length, tru
 ghost use Rattle.std.specs.List.{slice_get};
 ghost use Rattle.entries.specs.Entries.{is_nothing};
 ghost use Rattle.orders.specs.Orders.{other_order};
-ghost use Rattle.variants.specs.Variants.{left_in, view_in};
+ghost use Rattle.variants.specs.Variants.{below_of, own_in};
 ghost use Rattle.firmware.specs.declared.pile.Part.TheVariants.{Model};
+ghost use Rattle.firmware.specs.Parts.{deliveries_in};
 ghost use Rattle.model_runs.specs.Calls.{calls_in, result_of, result_at, outcomes_of};
-ghost use Rattle.model_runs.specs.Parts.{deliveries_in};
 ghost use Rattle.model_runs.specs.Made.{IsMadeBy, RanOver, Compares, NamesBelow};
 
 use entries::per_ns::PerNs;
@@ -67,7 +67,8 @@ pub fn with_model<'a, I: Index>(
     model: usize,
     below: &'a I,
 ) -> Result<Variant<'a, I>, AllocError>
-    ensures { IfOk result (λ x. IsMadeBy (deliveries_in firmware.now (Model model)) (I.view below.entry.now) (view_in x) (left_in x)) }
+    ensures made { IfOk result (λ x. IsMadeBy (deliveries_in firmware.now (Model model)) (I.view below.entry.now) (own_in x)) }
+    ensures below { IfOk result (λ x. below_of x ≡ below.entry.now) }
 {
     let mut variant = Variant::new(below);
     let statements = firmware.deliveries_of(Part::Model(model));
@@ -139,12 +140,13 @@ pub fn make_model<'a, 's, I: Index>(
     below: &'a I,
     statements: &[DeliveryStatement<'s>],
 ) -> Result<Made<'a, 's, I>, AllocError>
-    // What came of each delivery, and what the model tells after all of them.
-    ensures run { IfOk result (λ m. RanOver (I.view below.entry.now) statements.now (vec_items m.outcomes) (view_in m.index) (left_in m.index)) }
+    // What came of each delivery, and which places of its own the model has after all of them.
+    ensures run { IfOk result (λ m. RanOver (I.view below.entry.now) statements.now (vec_items m.outcomes) (own_in m.index)) }
     ensures order { IfOk result (λ m. m.order ≡ other_order (calls_in statements.now)) }
     // Whether the other order comes to the same; where it does, every question has one answer in both.
-    ensures compared { IfOk result (λ m. Compares (I.view below.entry.now) (view_in m.index)
-        (vec_items m.outcomes) m.order m.agreement (view_in m.other) (left_in m.other)) }
+    ensures compared { IfOk result (λ m. Compares (I.view below.entry.now) (vec_items m.outcomes) (own_in m.index)
+        m.order m.agreement (own_in m.other)) }
+    ensures below { IfOk result (λ m. (below_of m.index ≡ below.entry.now) × (below_of m.other ≡ below.entry.now)) }
     ensures within { IfOk result (λ m. NamesBelow (length statements.now) m.agreement) }
 {
     let deliveries = deliveries_of(alloc, statements)?;

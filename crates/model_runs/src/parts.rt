@@ -2,7 +2,8 @@
 ghost use Rattle.std.specs.Prelude.{◌≡◌, ◌++◌, IfOk, OnOk, vec_items, map};
 ghost use Rattle.std.specs.List.{flat_map};
 ghost use Rattle.std.specs.Option.{option_map};
-ghost use Rattle.model_runs.specs.Parts.{items_in, asking, asked_at, asked_in};
+ghost use Rattle.firmware.specs.Parts.{items_in};
+ghost use Rattle.model_runs.specs.Parts.{asking, asked_at, asked_in};
 
 use cuts::asked::Ask;
 use firmware::file::Firmware;

@@ -116,11 +116,11 @@ AnswerTo v left list (command.Sight vis from) r = r ≡ Ok (sight_answer (asked 
 AnswerTo v left list (command.Read text) r = TextAnswer IsReadAs (names_for v list) (vec_items text) r
 AnswerTo v left list command.Left r = r ≡ Ok (Left left)
 
--- what the index tells then, and how many rows it has left
-abbrev pub Unchanged : View → ℕ → View → ℕ → Type 0
-Unchanged v left v' left' = (v' ≡ v) × (left' ≡ left)
-
--- a delivery alone changes what it tells
-abbrev pub After : View → ℕ → Command → View → ℕ → Type 0
-After v left (command.Deliver d) v' left' = Takes v left d (taken_of v left d) v' left'
-After v left _ v' left' = Unchanged v left v' left'
+-- what a command makes of an index, of which Delivers is its own rule of a delivery: a delivery is taken or refused as any index takes
+-- it, and by that rule; every other command leaves the index as it is
+module _ {I : Type 0} (view : I → View) (left : I → ℕ) (Delivers : I → Delivery → Result Bool IndexFault → I → Type 0) where
+  abbrev pub After : I → Command → I → Type 0
+  After i (command.Deliver d) j =
+      let r = taken_of (view i) (left i) d in
+      Takes (view i) (left i) d r (view j) (left j) × Delivers i d r j
+  After i _ j = j ≡ i

@@ -59,6 +59,7 @@ fn delivered<I: Recipient>(index: &mut I, delivery: Delivery) -> Result<Answer, 
     ensures answers { told result ≡ delivery_answer (taken_of (I.view index.old) (I.left index.old) delivery) }
     ensures after { let v = I.view index.old in let left = I.left index.old in
         Takes v left delivery (taken_of v left delivery) (I.view index.new) (I.left index.new) }
+    ensures delivers { I.delivers index.old delivery (taken_of (I.view index.old) (I.left index.old) delivery) index.new }
     ensures names { (I.view index.new).fixed.names ≡ (I.view index.old).fixed.names }
 {
     let changed = deliver(index, delivery)?;
@@ -151,8 +152,7 @@ impl<'n, I: Recipient + Drop> World<'n, I> {
     pub fn answer(&mut self, alloc: Global, command: &Command) -> Result<Answer, AllocError>
         ensures answers { let i = self.old.index in
             AnswerTo (I.view i) (I.left i) self.old.list.now command.now result }
-        ensures after { let i = self.old.index in let j = self.new.index in
-            After (I.view i) (I.left i) command.now (I.view j) (I.left j) }
+        ensures after { After I.view I.left I.delivers self.old.index command.now self.new.index }
         ensures list { self.new.list.now ≡ self.old.list.now }
     {
         let index = &self.index;

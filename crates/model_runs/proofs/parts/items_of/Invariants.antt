@@ -1,6 +1,6 @@
 use Rattle.std.proofs.Common.{◌≡◌, take, vec_items}
 use Rattle.std.specs.List.{flat_map}
-use Rattle.model_runs.specs.Parts.{items_in}
+use Rattle.firmware.specs.Parts.{items_in}
 use Rattle.model_runs.proofs.parts.items_of.Given as goal
 
 abbrev pub invariant-loop-part : goal.invariant-loop-part
