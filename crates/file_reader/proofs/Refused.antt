@@ -1,5 +1,5 @@
 -- What a refusal comes to.
-use Rattle.std.proofs.Common.{◌≡◌, ◌≢◌, false, inl, inr, Ok, Err, Result, [], List, ℕ, Option, subst, sym}
+use Rattle.std.proofs.Common.{◌≡◌, ◌≢◌, ◌+◌, length, arith, false, inl, inr, Ok, Err, Result, [], List, ℕ, Option, subst, sym}
 use Rattle.std.specs.Result.{IfErr}
 use Rattle.entries.specs.declared.visibility.Visibility.{Visibility}
 use Rattle.entries.specs.declared.visibility.Visibility.TheVariants as vis
@@ -14,6 +14,7 @@ use Rattle.hir_def.specs.declared.ModuleId.{ModuleId}
 use Rattle.hir_def.specs.declared.fault.Failure.{Failure}
 use Rattle.hir_def.specs.declared.fault.Failure.TheVariants.{Memory, Refused}
 use Rattle.source_text.specs.declared.words.Word.{Word}
+use Rattle.statements.specs.Columns.{AllStandAt}
 use Rattle.statements.specs.Lines.{AllStandIn}
 use Rattle.statements.specs.Spelling.{IsRead, stands_below_models}
 use Rattle.statements.specs.declared.clauses.RawVisibility.TheVariants as raw
@@ -62,5 +63,7 @@ may_not_follow s r some never (inl h) = some h
 may_not_follow s r some never (inr h) = cc
 
 -- what is read of a line stands in it
-pub read_at : (a b : ℕ) (code : List ℕ) (o : Option (Word × Statement)) → a ≡ b → IsRead code o → AllStandIn a o → IsReadAt b code o
-read_at a b code o e r l = (r, subst (λ n. AllStandIn n o) e l)
+pub read_at : (a b : ℕ) (code : List ℕ) (o : Option (Word × Statement)) (column : ℕ) → a ≡ b → column ≡ 0 → IsRead code o → AllStandIn a o → AllStandAt (column + length code) code o → IsReadAt b code o
+read_at a b code o column e z r l s =
+    let end : column + length code ≡ length code = omega (arith, z) in
+    (r, subst (λ n. AllStandIn n o) e l, subst (λ k. AllStandAt k code o) end s)

@@ -1,5 +1,5 @@
 -- What a file tells: what its lines tell, one after the other.
-use Rattle.std.specs.Prelude.{◌≡◌, ◌⊎◌, ℕ, ◌+◌, ◌-◌, ◌^◌, ◌==◌, min, List, [], ◌∷◌, ◌++◌, Option, Some, None, IsTrue}
+use Rattle.std.specs.Prelude.{◌≡◌, ◌⊎◌, ℕ, ◌+◌, ◌-◌, ◌^◌, ◌==◌, min, List, [], ◌∷◌, ◌++◌, length, Option, Some, None, IsTrue}
 use Rattle.std.specs.List.{enumerate_from, slice_split}
 use Rattle.file_reader.specs.Adding.{Adds}
 use Rattle.file_reader.specs.Nothing.{IsNew}
@@ -7,6 +7,7 @@ use Rattle.file_reader.specs.Refusals.{IsIn, NoOutcome}
 use Rattle.file_reader.specs.Told.{Told, told}
 use Rattle.firmware.specs.declared.file.Firmware.{Firmware}
 use Rattle.source_text.specs.declared.words.Word.{Word}
+use Rattle.statements.specs.Columns.{AllStandAt}
 use Rattle.statements.specs.Lines.{AllStandIn}
 use Rattle.statements.specs.Spelling.{BeforeComment, IsRead, IsReadable, stands_below_models}
 use Rattle.statements.specs.declared.statement.Statement.{Statement}
@@ -21,9 +22,9 @@ abbrev pub AddsRead : Option (Word × Statement) → Told → Told → Type 0
 AddsRead None old new = new ≡ old
 AddsRead (Some p) old new = MayFollow p.1 old × Adds p.1 old new
 
--- A statement of the line with that number, whose words stand in that line, or none.
+-- A statement of the line with that number, whose words stand in that line, each at its column, or none.
 abbrev pub IsReadAt : ℕ → List ℕ → Option (Word × Statement) → Type 0
-IsReadAt number code o = IsRead code o × AllStandIn number o
+IsReadAt number code o = IsRead code o × AllStandIn number o × AllStandAt (length code) code o
 
 -- What the words of a line before its comment spell is added.
 unfoldable pub ReadsLine : ℕ → List ℕ → Told → Told → Type 0

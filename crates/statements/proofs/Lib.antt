@@ -1,3 +1,4 @@
+pub mod Columns
 pub mod FirstWords
 pub mod Left
 pub mod Numbered

@@ -1,4 +1,5 @@
 pub mod Clauses
+pub mod Columns
 pub mod Kinds
 pub mod Lines
 pub mod Names

@@ -3,6 +3,7 @@ ghost use Rattle.source_text.specs.Words.{first_word, after_word};
 ghost use Rattle.std.specs.Prelude.{◌≡◌, Option, IfOk, IfErr};
 ghost use Rattle.std.specs.Result.{result_ok};
 ghost use Rattle.statements.specs.Clauses.{asking_of, with_option};
+ghost use Rattle.statements.specs.Columns.{AskingAt, ToldAt, end_of};
 ghost use Rattle.statements.specs.Lines.{AskingStandsIn, ToldIn};
 ghost use Rattle.statements.specs.Spelling.{MayBeOption, MayAsk, after_asking};
 ghost use Rattle.statements.specs.declared.asking.Asking.{Asking};
@@ -50,6 +51,7 @@ const OPTION: &str =
 fn with_option<'a>(asking: Asking<'a>, word: Word<'a>) -> Result<Asking<'a>, Complaint>
     ensures option { result_ok result ≡ asking_of asking.entry word.entry.text.now }
     ensures told { ToldIn word.entry.line result }
+    ensures place { ToldAt word.entry.column result }
 {
     if word.is("mode=import") {
         Ok(Asking {
@@ -111,6 +113,7 @@ pub(crate) fn read_asking<'a>(
     ensures refused { IfErr result (λ _. (a : Option Asking) → ¬ (MayAsk a words.old.words.rest.now)) }
     ensures rest { IfOk result (λ a. words.new.words.rest.now ≡ after_asking a words.old.words.rest.now) }
     ensures lines { IfOk result (AskingStandsIn words.old.words.line) }
+    ensures columns { IfOk result (λ a. AskingAt a 1 (end_of words.old.words) words.old.words.rest.now) }
     ensures line { words.new.words.line ≡ words.old.words.line }
     ensures told { ToldIn words.old.words.line result }
 {

@@ -4,6 +4,7 @@ ghost use Rattle.source_text.specs.Words.{first_word, after_word};
 ghost use Rattle.std.specs.Prelude.{◌≡◌, ◌≢◌, ◌++◌, ℕ, List, IfOk, IfErr, codes};
 ghost use Rattle.std.specs.Result.{result_ok};
 ghost use Rattle.statements.specs.Clauses.{styles_of, with_style, shape_of, Says};
+ghost use Rattle.statements.specs.Columns.{IsAt, VisibilityAt, SiteAt, ToldAt, end_of};
 ghost use Rattle.statements.specs.Lines.{VisibilityStandsIn, SiteStandsIn, ToldIn};
 ghost use Rattle.statements.specs.Spelling.{after_module, after_visibility, MaySay, IsWithin, IsSite, after_site, MayBeStyle, AreStyles, after_words};
 ghost use Rattle.hir_def.specs.declared.edition.Edition.{Edition};
@@ -53,6 +54,7 @@ pub(crate) fn read_edition(word: Word) -> Result<Edition, Complaint>
     ensures edition { IfOk result (λ e. word.entry.text.now ≡ edition_text e) }
     ensures refused { IfErr result (λ _. (e : Edition) → word.entry.text.now ≢ edition_text e) }
     ensures told { ToldIn word.entry.line result }
+    ensures place { ToldAt word.entry.column result }
 {
     match text_or_nothing(word).parse::<Edition>() {
         Ok(edition) => Ok(edition),
@@ -65,7 +67,9 @@ fn closed<'a>(word: Word<'a>) -> Result<Word<'a>, Complaint>
     ensures module { IfOk result (λ w. word.entry.text.now ≡ w.text.now ++ codes ")") }
     ensures refused { IfErr result (λ _. (text : List ℕ) → word.entry.text.now ≢ text ++ codes ")") }
     ensures line { IfOk result (λ w. w.line ≡ word.entry.line) }
+    ensures column { IfOk result (λ w. w.column ≡ word.entry.column) }
     ensures told { ToldIn word.entry.line result }
+    ensures place { ToldAt word.entry.column result }
 {
     match word.text {
         [text @ .., b')'] => Ok(Word {
@@ -90,6 +94,7 @@ fn visibility_of<'a>(
         ¬ (Says word.entry.text.now (first_word words.old.words.rest.now) vis)) }
     ensures rest { IfOk result (λ vis. words.new.words.rest.now ≡ after_module vis words.old.words.rest.now) }
     ensures lines { IfOk result (VisibilityStandsIn words.old.words.line) }
+    ensures columns { IfOk result (λ vis. VisibilityAt vis 0 (end_of words.old.words) words.old.words.rest.now) }
     ensures line { words.new.words.line ≡ words.old.words.line }
     ensures told { word.entry.line ≡ words.old.words.line → ToldIn words.old.words.line result }
 {
@@ -115,6 +120,7 @@ pub(crate) fn read_optional<'a>(
     ensures refused { IfErr result (λ _. (vis : RawVisibility) → ¬ (MaySay vis words.old.words.rest.now)) }
     ensures rest { IfOk result (λ vis. words.new.words.rest.now ≡ after_visibility vis words.old.words.rest.now) }
     ensures lines { IfOk result (VisibilityStandsIn words.old.words.line) }
+    ensures columns { IfOk result (λ vis. VisibilityAt vis 1 (end_of words.old.words) words.old.words.rest.now) }
     ensures line { words.new.words.line ≡ words.old.words.line }
     ensures told { ToldIn words.old.words.line result }
 {
@@ -135,6 +141,8 @@ pub(crate) fn site_within<'a>(
         ¬ (IsWithin at vis words.old.words.rest.now)) }
     ensures rest { IfOk result (λ s. words.new.words.rest.now ≡ after_visibility s.vis (after_word words.old.words.rest.now)) }
     ensures lines { IfOk result (λ s. (s.«module».line ≡ words.old.words.line) × VisibilityStandsIn words.old.words.line s.vis) }
+    ensures columns { IfOk result (λ s. IsAt s.«module» 0 (end_of words.old.words) words.old.words.rest.now
+        × VisibilityAt s.vis 2 (end_of words.old.words) words.old.words.rest.now) }
     ensures line { words.new.words.line ≡ words.old.words.line }
     ensures told { ToldIn words.old.words.line result }
 {
@@ -149,6 +157,7 @@ pub(crate) fn read_site<'a>(words: &mut StatementWords<'a>) -> Result<Site<'a>, 
     ensures refused { IfErr result (λ _. (s : Site) → ¬ (IsSite s words.old.words.rest.now)) }
     ensures rest { IfOk result (λ s. words.new.words.rest.now ≡ after_site s words.old.words.rest.now) }
     ensures lines { IfOk result (SiteStandsIn words.old.words.line) }
+    ensures columns { IfOk result (λ s. SiteAt s (end_of words.old.words) words.old.words.rest.now) }
     ensures line { words.new.words.line ≡ words.old.words.line }
     ensures told { ToldIn words.old.words.line result }
 {
@@ -180,6 +189,7 @@ pub(crate) fn read_shape(words: &mut StatementWords) -> Result<Shape, Complaint>
 fn with_style(styles: CallStyles, word: Word) -> Result<CallStyles, Complaint>
     ensures styles { result_ok result ≡ styles_of styles word.entry.text.now }
     ensures told { ToldIn word.entry.line result }
+    ensures place { ToldAt word.entry.column result }
 {
     if word.is("bang") {
         Ok(CallStyles {

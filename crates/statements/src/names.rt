@@ -1,7 +1,8 @@
 // The words of a statement as names: of one segment, full names, and numbers.
-ghost use Rattle.std.specs.Prelude.{◌≡◌, ℕ, ◌<◌, ◌≤◌, ◌^◌, ◌++◌, ◌↔◌, ◌⊎◌, [], MatchResult, IfSome, IfNone, IfOk, IfErr, IsErr, codes, decimal};
+ghost use Rattle.std.specs.Prelude.{◌≡◌, ℕ, ◌<◌, ◌≤◌, ◌^◌, ◌+◌, length, ◌++◌, ◌↔◌, ◌⊎◌, [], MatchResult, IfSome, IfNone, IfOk, IfErr, IsErr, codes, decimal};
 ghost use Rattle.std.specs.Str.{IsUtf8};
 ghost use Rattle.path_text.specs.Grammar.{IsName};
+ghost use Rattle.statements.specs.Columns.{further, LastNameAt, ToldAt};
 ghost use Rattle.statements.specs.Lines.{ToldIn};
 ghost use Rattle.statements.specs.Names.{Parts, LastName};
 
@@ -19,6 +20,7 @@ pub fn name_of<'a>(word: Word<'a>) -> Result<&'a str, Complaint>
     ensures named { IfOk result (λ t. (t.now ≡ word.entry.text.now) × IsName word.entry.text.now) }
     ensures refused { IfErr result (λ _. ¬ (IsName word.entry.text.now × IsUtf8 word.entry.text.now)) }
     ensures told { ToldIn word.entry.line result }
+    ensures place { ToldAt word.entry.column result }
 {
     if !is_name(word.text) {
         return Err(Complaint::at(word, "this is no name", NAME));
@@ -30,6 +32,7 @@ pub fn name_of<'a>(word: Word<'a>) -> Result<&'a str, Complaint>
 pub fn text_of<'a>(word: Word<'a>) -> Result<&'a str, Complaint>
     ensures text { MatchResult result (λ t. (t.now ≡ word.entry.text.now) × IsUtf8 word.entry.text.now) (λ _. ¬ (IsUtf8 word.entry.text.now)) }
     ensures told { ToldIn word.entry.line result }
+    ensures place { ToldAt word.entry.column result }
 {
     match std::str::from_utf8(word.text) {
         Ok(text) => Ok(text),
@@ -48,7 +51,10 @@ pub(crate) fn text_or_nothing<'a>(word: Word<'a>) -> &'a str
 pub fn split<'a>(word: Word<'a>) -> Result<(Word<'a>, Word<'a>), Complaint>
     ensures parts { Parts word.entry.text.now result }
     ensures lines { IfOk result (λ p. (p.0.line ≡ word.entry.line) × (p.1.line ≡ word.entry.line)) }
+    ensures columns { IfOk result (λ p. (p.0.column ≡ word.entry.column)
+        × (p.1.column ≡ further word.entry.column (length p.0.text.now + 2))) }
     ensures told { ToldIn word.entry.line result }
+    ensures place { ToldAt word.entry.column result }
 {
     let Some((outer, name)) = word.text.rsplit_once_str(b"::") else {
         return Err(Complaint::at(
@@ -88,6 +94,7 @@ pub fn row_number(word: Word, count: usize) -> Result<u32, Complaint>
     ensures number { IfOk result (λ n. n ≡ count) }
     ensures refused { IsErr result ↔ (2 ^ 32 ≤ count) }
     ensures told { ToldIn word.entry.line result }
+    ensures place { ToldAt word.entry.column result }
 {
     match u32::try_from(count) {
         Ok(n) => Ok(n),
@@ -96,9 +103,11 @@ pub fn row_number(word: Word, count: usize) -> Result<u32, Complaint>
 }
 
 /// What stands after the last `::` of a full name; all of it, where it has none.
+#[tactic(auto, using(crate::proofs::Columns::before_colons))]
 pub fn last_name<'a>(word: Word<'a>) -> Word<'a>
     ensures name { LastName word.entry.text.now result.text.now }
     ensures line { result.line ≡ word.entry.line }
+    ensures column { LastNameAt word.entry result }
 {
     match split(word) {
         Ok((_, name)) => name,

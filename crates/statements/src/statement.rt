@@ -1,6 +1,7 @@
 // One statement of a firmware file, as its words say it.
 ghost use Rattle.std.specs.Prelude.{◌≡◌, ◌≢◌, ℕ, List, Option, IsTrue, IfOk, IfErr, IfSome, IfNone, codes};
 ghost use Rattle.source_text.specs.Words.{after_word};
+ghost use Rattle.statements.specs.Columns.{IsAt, MayBeAt, ImportNameAt, ImportAt, StandsAt, AllStandAt, end_of};
 ghost use Rattle.statements.specs.Lines.{WordStandsIn, SiteStandsIn, StandsIn, AllStandIn, ToldIn};
 ghost use Rattle.statements.specs.Spelling.{word, after_words, kind_word, ends_with_site, import_word, IsImportName, after_import_name, IsImport, after_import, MayGoOn, after_going_on, IsLegacy, IsMeaning, IsModel, Spells, after_statement, IsRead, IsReadable, stands_below_models};
 ghost use Rattle.source_text.specs.declared.words.Word.{Word};
@@ -65,6 +66,7 @@ fn read_more<'a>(
     ensures refused { IfErr result (λ _. (o : Option Word) → ¬ (MayGoOn keyword.now o words.old.words.rest.now)) }
     ensures rest { IfOk result (λ o. words.new.words.rest.now ≡ after_going_on o words.old.words.rest.now) }
     ensures lines { IfOk result (WordStandsIn words.old.words.line) }
+    ensures columns { IfOk result (λ o. MayBeAt o 1 (end_of words.old.words) words.old.words.rest.now) }
     ensures line { words.new.words.line ≡ words.old.words.line }
     ensures told { ToldIn words.old.words.line result }
 {
@@ -86,6 +88,9 @@ fn read_legacy<'a>(
         ¬ (IsLegacy name at o words.old.words.rest.now)) }
     ensures rest { IfOk result (λ t. words.new.words.rest.now ≡ after_going_on t.2 (after_words 3 words.old.words.rest.now)) }
     ensures lines { IfOk result (λ t. (t.0.line ≡ words.old.words.line) × (t.1.line ≡ words.old.words.line) × WordStandsIn words.old.words.line t.2) }
+    ensures columns { IfOk result (λ t. IsAt t.0 0 (end_of words.old.words) words.old.words.rest.now
+        × IsAt t.1 2 (end_of words.old.words) words.old.words.rest.now
+        × MayBeAt t.2 4 (end_of words.old.words) words.old.words.rest.now) }
     ensures line { words.new.words.line ≡ words.old.words.line }
     ensures told { ToldIn words.old.words.line result }
 {
@@ -114,6 +119,8 @@ fn read_import_name<'a>(
         → word 0 (after_import_name words.old.words.rest.now) ≢ codes "in") }
     ensures rest { IfOk result (λ _. words.new.words.rest.now ≡ after_word (after_import_name words.old.words.rest.now)) }
     ensures lines { IfOk result (λ name. full.entry.line ≡ words.old.words.line → name.line ≡ words.old.words.line) }
+    ensures columns { IfOk result (λ name. ImportNameAt full.entry name (end_of words.old.words) words.old.words.rest.now) }
+    ensures end { IfOk result (λ _. end_of words.new.words ≡ end_of words.old.words) }
     ensures line { words.new.words.line ≡ words.old.words.line }
     ensures told { ToldIn words.old.words.line result }
 {
@@ -140,6 +147,7 @@ fn read_use<'a>(
     ensures refused { IfErr result (λ _. (f : Word) (s : Site) → ¬ (IsImport bringing f s words.old.words.rest.now)) }
     ensures rest { IfOk result (λ t. words.new.words.rest.now ≡ after_import t.1 words.old.words.rest.now) }
     ensures lines { IfOk result (λ t. (t.0.line ≡ words.old.words.line) × SiteStandsIn words.old.words.line t.1) }
+    ensures columns { IfOk result (λ t. ImportAt t.0 t.1 (end_of words.old.words) words.old.words.rest.now) }
     ensures line { words.new.words.line ≡ words.old.words.line }
     ensures told { ToldIn words.old.words.line result }
 {
@@ -160,6 +168,9 @@ fn read_meaning<'a>(
         ¬ (IsMeaning name within meant words.old.words.rest.now)) }
     ensures rest { IfOk result (λ _. words.new.words.rest.now ≡ after_words 5 words.old.words.rest.now) }
     ensures lines { IfOk result (λ t. (t.0.line ≡ words.old.words.line) × (t.1.line ≡ words.old.words.line) × (t.2.line ≡ words.old.words.line)) }
+    ensures columns { IfOk result (λ t. IsAt t.0 0 (end_of words.old.words) words.old.words.rest.now
+        × IsAt t.1 2 (end_of words.old.words) words.old.words.rest.now
+        × IsAt t.2 4 (end_of words.old.words) words.old.words.rest.now) }
     ensures line { words.new.words.line ≡ words.old.words.line }
     ensures told { ToldIn words.old.words.line result }
 {
@@ -177,6 +188,8 @@ fn read_model<'a>(words: &mut StatementWords<'a>) -> Result<(Word<'a>, Option<Wo
         ¬ (IsModel name below words.old.words.rest.now)) }
     ensures rest { IfOk result (λ t. words.new.words.rest.now ≡ after_going_on t.1 (after_word words.old.words.rest.now)) }
     ensures lines { IfOk result (λ t. (t.0.line ≡ words.old.words.line) × WordStandsIn words.old.words.line t.1) }
+    ensures columns { IfOk result (λ t. IsAt t.0 0 (end_of words.old.words) words.old.words.rest.now
+        × MayBeAt t.1 2 (end_of words.old.words) words.old.words.rest.now) }
     ensures line { words.new.words.line ≡ words.old.words.line }
     ensures told { ToldIn words.old.words.line result }
 {
@@ -226,6 +239,7 @@ impl<'a> Statement<'a> {
         ensures read { IfOk result (IsRead words.entry.words.rest.now) }
         ensures refused { IfErr result (λ _. ¬ (IsReadable words.entry.words.rest.now)) }
         ensures line { IfOk result (AllStandIn words.entry.words.line) }
+        ensures columns { IfOk result (AllStandAt (end_of words.entry.words) words.entry.words.rest.now) }
         ensures told { ToldIn words.entry.words.line result }
     {
         let Some(verb) = words.next_word() else {
@@ -255,6 +269,7 @@ impl<'a> Statement<'a> {
             ¬ (Spells verb.entry.text.now words.old.words.rest.now s)) }
         ensures rest { IfOk result (λ s. words.new.words.rest.now ≡ after_statement s words.old.words.rest.now) }
         ensures lines { IfOk result (StandsIn words.old.words.line) }
+        ensures columns { IfOk result (StandsAt (end_of words.old.words) words.old.words.rest.now) }
         ensures line { IfOk result (λ _. words.new.words.line ≡ words.old.words.line) }
         ensures told { verb.entry.line ≡ words.old.words.line → ToldIn words.old.words.line result }
     {

@@ -1,6 +1,7 @@
 // Why a file is not taken, and how that is told.
-ghost use Rattle.std.specs.Prelude.{◌≡◌, alloc_error};
+ghost use Rattle.std.specs.Prelude.{◌≡◌, Some};
 ghost use Rattle.hir_def.specs.declared.fault.Failure.TheVariants.{Memory, Refused};
+ghost use Rattle.troubles.specs.Told.{line_of, complaint_text, located_text};
 ghost use Rattle.troubles.specs.declared.trouble.Trouble.TheVariants.{Text, Tables};
 
 use crate::complaint::Complaint;
@@ -48,7 +49,9 @@ impl From<Complaint> for Failure<Trouble> {
 }
 
 // The line of that number, from 1, without its line feed; empty where there is none.
-fn line_of(text: &[u8], line: usize) -> &[u8] {
+fn line_of(text: &[u8], line: usize) -> &[u8]
+    ensures { result.now ≡ line_of text.now line }
+{
     let line = text
         .split(|b| *b == b'\n')
         .nth(line.saturating_sub(1))
@@ -69,6 +72,8 @@ impl fmt::Display for FaultTold {
 }
 
 impl<'a> fmt::Display for ComplaintTold<'a> {
+    ghost output = { λ c. Some (complaint_text c.text.now c.complaint) };
+
     fn fmt<W: fmt::Write>(&self, f: &mut fmt::Formatter<W>) -> fmt::Result {
         let line = self.complaint.line;
         let column = self.complaint.column.saturating_add(1);
@@ -86,6 +91,8 @@ impl<'a> fmt::Display for ComplaintTold<'a> {
 }
 
 impl<'a> fmt::Display for Located<'a> {
+    ghost output = { λ l. located_text l.path.now l.text.now l.trouble };
+
     fn fmt<W: fmt::Write>(&self, f: &mut fmt::Formatter<W>) -> fmt::Result {
         let path = self.path;
         match self.trouble {

@@ -10,7 +10,7 @@ use Rattle.file_reader.proofs.reader.Reader.take_line.Goals.{else-not-is_empty-v
 
 pub returns-in_default-clause-read : goal.returns-in_default-clause-read
 unfolding ReadsLine
-returns-in_default-clause-read c = (_, None, c.of.ensures.code, subst (IsReadAt c.args.number c.of.result.words.rest.now) c.in_default.is (read_at c.of.result.words.line c.args.number c.of.result.words.rest.now c.in_ok-verb.field-0 c.of.ensures.line c.in_ok-verb.ensures.read c.in_ok-verb.ensures.line), refl)
+returns-in_default-clause-read c = (_, None, c.of.ensures.code, subst (IsReadAt c.args.number c.of.result.words.rest.now) c.in_default.is (read_at c.of.result.words.line c.args.number c.of.result.words.rest.now c.in_ok-verb.field-0 c.of.result.words.column c.of.ensures.line c.of.ensures.column c.in_ok-verb.ensures.read c.in_ok-verb.ensures.line c.in_ok-verb.ensures.columns), refl)
 
 pub returns-clause-read : goal.returns-clause-read
 unfolding ReadsLine
@@ -21,7 +21,7 @@ returns-clause-read c =
       | else-not-is_empty-via-then-not-is_empty+else-not-stands_below_models w ↦ inr (search (rules, tests))
       | else-not-is_empty-via-else-not-is_empty w ↦ inl (nil_from_length _ (search (rules, tests)))
     ] in
-    on_ok_weaker c.add.result (λ a. (code, Some (c.in-Some.verb, s), c.of.ensures.code, subst (IsReadAt c.args.number code) c.in-Some.is (read_at c.of.result.words.line c.args.number c.of.result.words.rest.now c.in_ok-verb.field-0 c.of.ensures.line c.in_ok-verb.ensures.read c.in_ok-verb.ensures.line), (may, a))) c.add.ensures.added
+    on_ok_weaker c.add.result (λ a. (code, Some (c.in-Some.verb, s), c.of.ensures.code, subst (IsReadAt c.args.number code) c.in-Some.is (read_at c.of.result.words.line c.args.number c.of.result.words.rest.now c.in_ok-verb.field-0 c.of.result.words.column c.of.ensures.line c.of.ensures.column c.in_ok-verb.ensures.read c.in_ok-verb.ensures.line c.in_ok-verb.ensures.columns), (may, a))) c.add.ensures.added
 
 pub returns-in_err-verb-clause-refused : goal.returns-in_err-verb-clause-refused
 unfolding RefusesLine
@@ -41,7 +41,7 @@ returns-then-not-stands_below_models-clause-refused c =
       c.of.ensures.code,
       inr (
         Some (c.in-Some.verb, s),
-        subst (IsReadAt c.args.number code) c.in-Some.is (read_at c.of.result.words.line c.args.number c.of.result.words.rest.now c.in_ok-verb.field-0 c.of.ensures.line c.in_ok-verb.ensures.read c.in_ok-verb.ensures.line),
+        subst (IsReadAt c.args.number code) c.in-Some.is (read_at c.of.result.words.line c.args.number c.of.result.words.rest.now c.in_ok-verb.field-0 c.of.result.words.column c.of.ensures.line c.of.ensures.column c.in_ok-verb.ensures.read c.in_ok-verb.ensures.line c.in_ok-verb.ensures.columns),
         (λ new a. may_not_follow s old (λ e. some (ap length e)) (cc) a.0),
       ),
     ) in
@@ -53,11 +53,11 @@ returns-clause-refused c =
     let s = c.in-Some.statement in
     let code = c.of.result.words.rest.now in
     then_refused c.add.result
-    (λ none. (code, c.of.ensures.code, inr (Some (c.in-Some.verb, s), subst (IsReadAt c.args.number code) c.in-Some.is (read_at c.of.result.words.line c.args.number c.of.result.words.rest.now c.in_ok-verb.field-0 c.of.ensures.line c.in_ok-verb.ensures.read c.in_ok-verb.ensures.line), (λ new a. none new a.1))))
+    (λ none. (code, c.of.ensures.code, inr (Some (c.in-Some.verb, s), subst (IsReadAt c.args.number code) c.in-Some.is (read_at c.of.result.words.line c.args.number c.of.result.words.rest.now c.in_ok-verb.field-0 c.of.result.words.column c.of.ensures.line c.of.ensures.column c.in_ok-verb.ensures.read c.in_ok-verb.ensures.line c.in_ok-verb.ensures.columns), (λ new a. none new a.1))))
     c.add.ensures.refused
 
 pub returns-clause-line : goal.returns-clause-line
 returns-clause-line c =
     let code = c.of.result.words.rest.now in
-    let read = read_at c.of.result.words.line c.args.number code c.in_ok-verb.field-0 c.of.ensures.line c.in_ok-verb.ensures.read c.in_ok-verb.ensures.line in
+    let read = read_at c.of.result.words.line c.args.number code c.in_ok-verb.field-0 c.of.result.words.column c.of.ensures.line c.of.ensures.column c.in_ok-verb.ensures.read c.in_ok-verb.ensures.line c.in_ok-verb.ensures.columns in
     c.add.ensures.line c.args.number (subst (IsReadAt c.args.number code) c.in-Some.is read).1.1
