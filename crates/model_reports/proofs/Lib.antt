@@ -1,2 +1,3 @@
 pub mod Answered
+pub mod Piled
 pub mod Taken

@@ -1,6 +1,7 @@
 // The index to which the deliveries of a file are made: its make, and the rows that it is lent.
-ghost use Rattle.std.specs.Prelude.{◌≡◌, is_ok};
+ghost use Rattle.std.specs.Prelude.{◌≡◌, is_ok, OnOk};
 ghost use Rattle.model_reports.specs.Results.{rows_for};
+ghost use Rattle.reports.specs.Base.{TakesBase};
 
 use crate::models::write_models;
 use firmware::pile::Part;
@@ -57,7 +58,9 @@ fn write_whole<I: Recipient, W: io::Write, E: io::Write>(
     survey: &Survey,
     index: &mut I,
     style: Style,
-) -> io::Result<()> {
+) -> io::Result<()>
+    ensures { OnOk result (TakesBase I.view I.left I.delivers survey.now.firmware.now index.old index.new) }
+{
     write_report(alloc, w, progress, path, survey, index, style)?;
     write_models(alloc, w, progress, path, survey, &*index, style)
 }

@@ -1,5 +1,6 @@
 // Writes the report on one model: its deliveries in two orders, the answers to its paths, the verdicts on its items, its account.
 ghost use Rattle.std.specs.Prelude.{IfOk};
+ghost use Rattle.model_reports.specs.Results.{StandsOn};
 ghost use Rattle.model_reports.specs.Said.{SaysOf};
 
 use crate::results::Results;
@@ -180,7 +181,10 @@ pub(crate) fn write_model<'a, I: Index, W: io::Write, E: io::Write>(
     model: &Model<'a>,
     below: &I,
     style: Style,
-) -> io::Result<()> {
+) -> io::Result<()>
+    // The index is the one that this model stands on: what the models below it in its pile made.
+    requires { StandsOn survey.now.firmware.now model.now.pile (I.view below.now) }
+{
     let form = style.form;
     let name = model.name;
     let results = Results::of(alloc, progress, path, survey, model, below, style)?;

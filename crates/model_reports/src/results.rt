@@ -4,12 +4,12 @@ ghost use Rattle.hir_def.specs.declared.ModuleDefId.{ModuleDefId};
 ghost use Rattle.cuts.specs.Asked.{answered_by};
 ghost use Rattle.cuts.specs.Reached.{said, reason};
 ghost use Rattle.orders.specs.Orders.{other_order};
-ghost use Rattle.variants.specs.Variants.{left_in, view_in};
+ghost use Rattle.variants.specs.Variants.{below_of, left_in, own_in, view_in};
 ghost use Rattle.model_runs.specs.Calls.{calls_in};
 ghost use Rattle.model_runs.specs.Made.{RanOver, Compares};
 ghost use Rattle.model_wording.specs.Comparing.{HasStatement, comparison_of};
 ghost use Rattle.model_wording.specs.Models.{told_of, account_of};
-ghost use Rattle.model_reports.specs.Results.{own_deliveries, pile_items, pile_asks, AreAnswered};
+ghost use Rattle.model_reports.specs.Results.{own_deliveries, pile_items, pile_asks, AreAnswered, StandsOn, HasPile};
 
 use cuts::asked::{Answered, Ask, answer};
 use cuts::reached::Reached;
@@ -79,13 +79,18 @@ impl<'b, 's, 'a, I: Index> Results<'b, 's, 'a, I> {
         below: &'b I,
         style: Style,
     ) -> io::Result<Results<'b, 's, 'a, I>>
+        // The index is the one that this model stands on: what the models below it in its pile made.
+        requires { StandsOn survey.now.firmware.now model.now.pile (I.view below.now) }
         ensures told { IfOk result (λ r. r.told ≡ told_of (vec_items survey.entry.now.firmware.now.models) model.now) }
         // The indexes are what the model's own deliveries make of the one below, in their order and in the other.
         ensures run { IfOk result (λ r. RanOver (I.view below.entry.now) (own_deliveries survey.entry.now.firmware.now model.now)
-            (vec_items r.made.outcomes) (view_in r.made.index) (left_in r.made.index)) }
+            (vec_items r.made.outcomes) (own_in r.made.index)) }
         ensures order { IfOk result (λ r. r.made.order ≡ other_order (calls_in (own_deliveries survey.entry.now.firmware.now model.now))) }
-        ensures compared { IfOk result (λ r. Compares (I.view below.entry.now) (view_in r.made.index)
-            (vec_items r.made.outcomes) r.made.order r.made.agreement (view_in r.made.other) (left_in r.made.other)) }
+        ensures compared { IfOk result (λ r. Compares (I.view below.entry.now) (vec_items r.made.outcomes) (own_in r.made.index)
+            r.made.order r.made.agreement (own_in r.made.other)) }
+        ensures below { IfOk result (λ r. (below_of r.made.index ≡ below.entry.now) × (below_of r.made.other ≡ below.entry.now)) }
+        // So the model's has the deliveries of all models of its pile, each over those below it.
+        ensures pile { IfOk result (λ r. HasPile survey.entry.now.firmware.now model.now.pile (view_in r.made.index)) }
         ensures comparison { IfOk result (λ r. r.comparison
             ≡ comparison_of (own_deliveries survey.entry.now.firmware.now model.now) r.made.order r.made.agreement) }
         ensures stands { IfOk result (λ r. HasStatement r.comparison) }

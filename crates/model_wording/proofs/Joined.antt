@@ -19,14 +19,15 @@ use Rattle.model_wording.specs.declared.comparison.Comparison.{Comparison}
 use Rattle.model_wording.specs.declared.comparison.Comparison.TheVariants.{Alone, Agree}
 use Rattle.model_wording.specs.Comparing.{is_by_glob, is_by_name, joined, calls_in, call_of, comparison_of, position_of, IsParted, PartedBelow, TellsParted, HasStatement, TellsCallAt}
 
-globs-calls : (ss : List DeliveryStatement) → calls_in (filter is_by_glob ss) ≡ by_globs (calls_in ss)
+-- the calls of those by glob, and of those by name
+pub globs-calls : (ss : List DeliveryStatement) → calls_in (filter is_by_glob ss) ≡ by_globs (calls_in ss)
 globs-calls [] = refl
 globs-calls (s ∷ ss) =
     let fs = filter is_by_glob ss in
     let cs = by_globs (calls_in ss) in
     elim (is_by_glob s) as (λ b. calls_in (cond b (s ∷ fs) fs) ≡ cond b (call_of s ∷ cs) cs) [ true ↦ ap (λ (t : List Call). call_of s ∷ t) (globs-calls ss) | false ↦ globs-calls ss ]
 
-names-calls : (ss : List DeliveryStatement) → calls_in (filter is_by_name ss) ≡ by_names (calls_in ss)
+pub names-calls : (ss : List DeliveryStatement) → calls_in (filter is_by_name ss) ≡ by_names (calls_in ss)
 names-calls [] = refl
 names-calls (s ∷ ss) =
     let fs = filter is_by_name ss in

@@ -45,6 +45,12 @@ TellsParted Alone = ⊥
 TellsParted (Agree o d) = ⊥
 TellsParted (Parted o s) = ⊤
 
+-- the order that is told, where one is
+abbrev pub TellsOrder : Order → Comparison → Type 0
+TellsOrder order Alone = ⊤
+TellsOrder order (Agree o s) = o ≡ order
+TellsOrder order (Parted o s) = o ≡ order
+
 abbrev pub HasStatement : Comparison → Type 0
 HasStatement Alone = ⊤
 HasStatement (Agree o d) = ⊤

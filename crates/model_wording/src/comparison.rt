@@ -2,8 +2,10 @@
 ghost use Rattle.std.specs.Prelude.{◌≡◌, ◌↔◌, IfOk, vec_items, filter, length};
 ghost use Rattle.std.specs.List.{slice_get};
 ghost use Rattle.std.specs.Option.{option_and_then};
-ghost use Rattle.orders.specs.Orders.{reordered};
-ghost use Rattle.model_wording.specs.Comparing.{is_by_glob, is_by_name, joined, calls_in, compared, comparison_of, position_of, IsParted, PartedBelow, TellsParted, HasStatement, TellsCallAt};
+ghost use Rattle.orders.specs.Agreements.{Agrees};
+ghost use Rattle.orders.specs.Orders.{reordered, IsOneKind};
+ghost use Rattle.model_wording.specs.declared.comparison.Comparison.TheVariants.{Alone};
+ghost use Rattle.model_wording.specs.Comparing.{is_by_glob, is_by_name, joined, calls_in, compared, comparison_of, position_of, IsParted, PartedBelow, TellsParted, TellsOrder, HasStatement, TellsCallAt};
 
 use firmware::file::DeliveryStatement;
 use orders::agreement::Agreement;
@@ -16,9 +18,9 @@ pub enum Comparison<'a> {
     /// All deliveries are by name, or all by glob, so that the other order is the same.
     Alone,
     /// Each delivery is taken in both orders or refused in both, so that every question has one answer. The statement is the first
-    /// that changed a place in one order and none in the other.
+    /// in the other order that changed a place in one order and none in the other.
     Agree(Order, Option<DeliveryStatement<'a>>),
-    /// A delivery is taken in one order and refused in the other. The statement is the first such.
+    /// A delivery is taken in one order and refused in the other. The statement is the first such in the other order.
     Parted(Order, Option<DeliveryStatement<'a>>),
 }
 
@@ -107,7 +109,7 @@ impl<'a> Comparison<'a> {
     }
 
     /// What the agreement of the statements' order with that other order says of them. Fails where memory is wanting.
-    #[tactic(auto, using(crate::proofs::Joined::parted, crate::proofs::Joined::tells_call))]
+    #[tactic(auto, using(crate::proofs::Joined::parted, crate::proofs::Joined::tells_call, crate::proofs::Alone::tells_order))]
     pub fn of(
         alloc: Global,
         statements: &[DeliveryStatement<'a>],
@@ -115,6 +117,10 @@ impl<'a> Comparison<'a> {
         agreement: Agreement,
     ) -> Result<Comparison<'a>, AllocError>
         ensures value { IfOk result (λ c. c ≡ comparison_of statements.now order agreement) }
+        // No other order is told exactly where none of them is by glob, or all are, and the two orders agree.
+        ensures alone { IfOk result (λ c. (c ≡ Alone) ↔ (Agrees agreement × IsOneKind (calls_in statements.now))) }
+        // Else the other order is the one that was given.
+        ensures order { IfOk result (TellsOrder order) }
         ensures parted { IfOk result (λ c. TellsParted c ↔ IsParted agreement) }
         ensures stands { PartedBelow (length statements.now) agreement → IfOk result HasStatement }
         // The statement that is told is the one whose call stands at the agreement's position in the other order.

@@ -1,3 +1,5 @@
+pub mod Base
+pub mod Items
 pub mod Written
 pub mod Receiving
 pub mod Sights

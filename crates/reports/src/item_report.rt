@@ -1,4 +1,11 @@
-// Writes who may see each item.
+// Writes who may see each item, and counts that.
+ghost use Rattle.std.specs.Prelude.{◌≡◌, IfErr, IfOk, Err, OnOk};
+ghost use Rattle.entries.specs.Viewers.{viewers_of};
+ghost use Rattle.hir_def.specs.Faults.{IfRefused};
+ghost use Rattle.reports.specs.Items.{account_of, shape_in, with_declared};
+ghost use Rattle.reports.specs.Sights.{AreSeen, SeesBy};
+ghost use Rattle.reports.specs.Styles.{most_named};
+
 use crate::sights::Sights;
 use crate::style::{FEW, Form, PROGRESS_STEP, Style};
 use entries::account::Account;
@@ -81,7 +88,11 @@ fn write_item<W: io::Write>(
     answer: Result<&Seen, Failure<TreeFault>>,
     account: &mut Account,
     style: Style,
-) -> io::Result<()> {
+) -> io::Result<()>
+    requires seen { IfOk answer (λ s. SeesBy (shape_in survey.now) (most_named style) item.vis s.now) }
+    requires refused { IfErr answer (IfRefused (λ f. viewers_of (shape_in survey.now) item.vis ≡ Err f)) }
+    ensures { OnOk result (account.new ≡ with_declared (shape_in survey.now) account.old item.entry) }
+{
     match answer {
         Ok(seen) => {
             let names = survey.firmware.names.as_slice();
@@ -97,6 +108,47 @@ fn write_item<W: io::Write>(
     }
 }
 
+// Asks who may see an item, and writes it.
+fn write_asked<W: io::Write>(
+    alloc: Global,
+    w: &mut W,
+    survey: &Survey,
+    item: Declared,
+    account: &mut Account,
+    style: Style,
+) -> io::Result<()>
+    ensures { OnOk result (account.new ≡ with_declared (shape_in survey.now) account.old item.entry) }
+{
+    let seen = Seen::of(alloc, &survey.tables, item.vis, style.most());
+    let answer = seen.as_ref().map_err(|e| *e);
+    write_item(alloc, w, survey, item, answer, account, style)
+}
+
+// Looks up who may see an item, and writes it.
+fn write_looked_up<W: io::Write>(
+    alloc: Global,
+    w: &mut W,
+    survey: &Survey,
+    item: Declared,
+    sights: &mut Sights,
+    account: &mut Account,
+    style: Style,
+) -> io::Result<()>
+    requires most { sights.old.most ≡ most_named style }
+    requires seen { AreSeen (shape_in survey.now) sights.old }
+    ensures most { sights.new.most ≡ sights.old.most }
+    ensures seen { AreSeen (shape_in survey.now) sights.new }
+    ensures account { OnOk result (account.new ≡ with_declared (shape_in survey.now) account.old item.entry) }
+{
+    match sights.look(alloc, &survey.tables, item.vis) {
+        Ok(()) => {
+            let seen = sights.get(item.vis).unwrap();
+            write_item(alloc, w, survey, item, Ok(seen), account, style)
+        }
+        Err(e) => write_item(alloc, w, survey, item, Err(e), account, style),
+    }
+}
+
 /// Writes who may see each item, and answers the counts of it. A list that may be long is not kept.
 pub(crate) fn write_items<W: io::Write, E: io::Write>(
     alloc: Global,
@@ -105,7 +157,9 @@ pub(crate) fn write_items<W: io::Write, E: io::Write>(
     path: &str,
     survey: &Survey,
     style: Style,
-) -> io::Result<Account> {
+) -> io::Result<Account>
+    ensures { IfOk result (λ a. a ≡ account_of survey.now) }
+{
     let most = style.most();
     let mut sights = Sights::new(alloc, most);
     let mut account = Account::new();
@@ -115,15 +169,9 @@ pub(crate) fn write_items<W: io::Write, E: io::Write>(
             writeln!(progress, "{path}: {done} of {all} items")?;
         }
         if most > FEW {
-            let seen = Seen::of(alloc, &survey.tables, item.vis, most);
-            let answer = seen.as_ref().map_err(|e| *e);
-            write_item(alloc, w, survey, *item, answer, &mut account, style)?;
+            write_asked(alloc, w, survey, *item, &mut account, style)?;
         } else {
-            let answer = match sights.look(alloc, &survey.tables, item.vis) {
-                Ok(()) => Ok(sights.get(item.vis).unwrap()),
-                Err(e) => Err(e),
-            };
-            write_item(alloc, w, survey, *item, answer, &mut account, style)?;
+            write_looked_up(alloc, w, survey, *item, &mut sights, &mut account, style)?;
         }
     }
     Ok(account)

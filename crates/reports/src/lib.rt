@@ -2,6 +2,7 @@
 #![tactic(auto)]
 
 pub mod answer_report;
+mod base;
 mod item_report;
 pub mod place_report;
 pub mod report;

@@ -2,14 +2,14 @@
 ghost use Rattle.std.specs.Prelude.{◌≡◌, IfOk, OnOk};
 ghost use Rattle.std.specs.Io.KnownBytes.{Appends};
 ghost use Rattle.path_text.specs.Written.{written_of};
+ghost use Rattle.reports.specs.Base.{TakesBase};
 ghost use Rattle.reports.specs.Written.{heading, path_text_or};
 
 use crate::answer_report::write_answer;
+use crate::base::Base;
 use crate::item_report::write_items;
 use crate::place_report::{write_places, write_refused_deliveries};
 use crate::style::{Form, Style};
-use firmware::deliveries::deliver_all;
-use firmware::pile::Part;
 use firmware::survey::Survey;
 use item_scope::index::Recipient;
 use nameres::Tree;
@@ -21,7 +21,6 @@ use paths::told::PathTold;
 use report_json::json::{account_value, file_value, path_value, write_value};
 use std::alloc::{AllocError, Global};
 use std::io;
-use wording::counts::DeliveryCounts;
 use wording::items::{AccountLine, AccountTold};
 
 /// The text that a path is written as; where the list lacks a name of it, a sentence that says so.
@@ -93,27 +92,20 @@ pub fn write_report<I: Recipient, W: io::Write, E: io::Write>(
     survey: &Survey,
     index: &mut I,
     style: Style,
-) -> io::Result<()> {
+) -> io::Result<()>
+    ensures { OnOk result (TakesBase I.view I.left I.delivers survey.now.firmware.now index.old index.new) }
+{
     let account = write_items(alloc, w, progress, path, survey, style)?;
-    let statements = survey.firmware.deliveries_of(Part::Base);
-    let outcomes = deliver_all(alloc, index, statements)?;
+    let base = Base::of(alloc, survey, account, index)?;
     write_places(alloc, w, survey, &*index, style.form)?;
-    write_refused_deliveries(alloc, w, outcomes.as_slice(), style.form)?;
-    let paths = survey.firmware.paths_of(Part::Base).end;
-    let questions = survey.firmware.questions.iter().take(paths);
-    for (path, question) in survey.paths.iter().zip(questions) {
+    write_refused_deliveries(alloc, w, base.outcomes.as_slice(), style.form)?;
+    for (path, question) in survey.paths.iter().zip(base.questions) {
         write_path_report(alloc, w, survey, path, style.form)?;
         if let Some(question) = question {
             write_answer(alloc, w, survey, &*index, path, *question, style.form)?;
         }
     }
-    let told = AccountTold {
-        account,
-        modules: survey.tables.modules(),
-        paths,
-        deliveries: DeliveryCounts::of(outcomes.as_slice()),
-    };
-    write_account(alloc, w, told, style.form)
+    write_account(alloc, w, base.told, style.form)
 }
 
 /// Writes which file the report after it is on: always as JSON, and else where there are several files.
