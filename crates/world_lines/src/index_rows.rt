@@ -1,4 +1,9 @@
 // The rows of a world that tell of its index beside the tree.
+ghost use Rattle.std.specs.Prelude.{◌≡◌, ◌∷◌, ◌++◌, [], true, false, IfOk, MatchOption};
+ghost use Rattle.world_commands.specs.Words.{ReadAs, parts_of};
+ghost use Rattle.world_lines.specs.Rows.{IsExternRow, IsMacroUseRow, IsPreludeRow, IsLegacyRow, IsVariantRow};
+
+use crate::words::{four, three, two};
 use hir_def::{CrateId, EnumId, EnumVariantId, ExternCrateId, MacroId, ModuleId, Name};
 use index_tables::keys::{CrateName, EnumName, MapName, ModuleName};
 use item_scope::index_data::{CallStyles, DefMapId, EnumVariant, ExternPrelude, MacroUse};
@@ -18,77 +23,85 @@ pub(crate) struct IndexRows {
     pub variants: Vec<Row<EnumName, EnumVariant>>,
 }
 
-fn extern_row(rest: &str) -> Option<Row<CrateName, ExternPrelude>> {
-    let mut words = rest.split(' ');
-    let row = Row {
+fn extern_row(rest: &str) -> Option<Row<CrateName, ExternPrelude>>
+    ensures { ReadAs IsExternRow (parts_of 32 rest.now) result }
+{
+    let (krate, name, module, by) = four(rest)?;
+    Some(Row {
         key: CrateName {
-            krate: CrateId(number(words.next()?)?),
-            name: Name(number(words.next()?)?),
+            krate: CrateId(number(krate)?),
+            name: Name(number(name)?),
         },
         value: ExternPrelude {
-            module: ModuleId(number(words.next()?)?),
-            extern_crate: optional(words.next()?)?.map(ExternCrateId),
+            module: ModuleId(number(module)?),
+            extern_crate: optional(by)?.map(ExternCrateId),
         },
-    };
-    words.next().is_none().then_some(row)
+    })
 }
 
-fn macro_use_row(rest: &str) -> Option<Row<MapName, MacroUse>> {
-    let mut words = rest.split(' ');
-    let row = Row {
+fn macro_use_row(rest: &str) -> Option<Row<MapName, MacroUse>>
+    ensures { ReadAs IsMacroUseRow (parts_of 32 rest.now) result }
+{
+    let (of, name, def, by) = four(rest)?;
+    Some(Row {
         key: MapName {
-            map: map(words.next()?)?,
-            name: Name(number(words.next()?)?),
+            map: map(of)?,
+            name: Name(number(name)?),
         },
         value: MacroUse {
-            def: MacroId(number(words.next()?)?),
-            extern_crate: optional(words.next()?)?.map(ExternCrateId),
+            def: MacroId(number(def)?),
+            extern_crate: optional(by)?.map(ExternCrateId),
         },
-    };
-    words.next().is_none().then_some(row)
+    })
 }
 
-fn prelude_row(rest: &str) -> Option<Row<DefMapId, ModuleId>> {
-    let (key, module) = rest.split_once(' ')?;
+fn prelude_row(rest: &str) -> Option<Row<DefMapId, ModuleId>>
+    ensures { ReadAs IsPreludeRow (parts_of 32 rest.now) result }
+{
+    let (of, module) = two(rest)?;
     Some(Row {
-        key: map(key)?,
+        key: map(of)?,
         value: ModuleId(number(module)?),
     })
 }
 
-fn legacy_row(rest: &str) -> Option<Row<ModuleName, MacroId>> {
-    let mut words = rest.split(' ');
-    let row = Row {
+fn legacy_row(rest: &str) -> Option<Row<ModuleName, MacroId>>
+    ensures { ReadAs IsLegacyRow (parts_of 32 rest.now) result }
+{
+    let (at, name, def) = three(rest)?;
+    Some(Row {
         key: ModuleName {
-            at: ModuleId(number(words.next()?)?),
-            name: Name(number(words.next()?)?),
+            at: ModuleId(number(at)?),
+            name: Name(number(name)?),
         },
-        value: MacroId(number(words.next()?)?),
-    };
-    words.next().is_none().then_some(row)
+        value: MacroId(number(def)?),
+    })
 }
 
-fn variant_row(rest: &str) -> Option<Row<EnumName, EnumVariant>> {
-    let mut words = rest.split(' ');
-    let row = Row {
+fn variant_row(rest: &str) -> Option<Row<EnumName, EnumVariant>>
+    ensures { ReadAs IsVariantRow (parts_of 32 rest.now) result }
+{
+    let (of, name, variant, constructor) = four(rest)?;
+    Some(Row {
         key: EnumName {
-            of: EnumId(number(words.next()?)?),
-            name: Name(number(words.next()?)?),
+            of: EnumId(number(of)?),
+            name: Name(number(name)?),
         },
         value: EnumVariant {
-            variant: EnumVariantId(number(words.next()?)?),
-            has_constructor: match words.next()? {
+            variant: EnumVariantId(number(variant)?),
+            has_constructor: match constructor {
                 "0" => false,
                 "1" => true,
                 _ => return None,
             },
         },
-    };
-    words.next().is_none().then_some(row)
+    })
 }
 
 /// Pushes what a line was read as, or answers that it was not.
-pub(crate) fn pushed<T: Drop>(rows: &mut Vec<T>, row: Option<T>) -> Result<bool, AllocError> {
+pub(crate) fn pushed<T: Drop>(rows: &mut Vec<T>, row: Option<T>) -> Result<bool, AllocError>
+    ensures { IfOk result (λ told. MatchOption row ((told ≡ false) × (rows.new.items ≡ rows.old.items)) (λ r. (told ≡ true) × (rows.new.items ≡ rows.old.items ++ r ∷ []))) }
+{
     match row {
         Some(row) => {
             rows.push(row)?;
@@ -99,7 +112,9 @@ pub(crate) fn pushed<T: Drop>(rows: &mut Vec<T>, row: Option<T>) -> Result<bool,
 }
 
 /// Takes what a line was read as for a value, or answers that it was not.
-pub(crate) fn set<T: Copy>(value: &mut T, told: Option<T>) -> bool {
+pub(crate) fn set<T: Copy>(value: &mut T, told: Option<T>) -> bool
+    ensures { MatchOption told ((result ≡ false) × (value.new ≡ value.old)) (λ t. (result ≡ true) × (value.new ≡ t)) }
+{
     match told {
         Some(told) => {
             *value = told;

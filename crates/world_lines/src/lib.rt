@@ -6,5 +6,6 @@ mod lines;
 mod pile;
 mod play;
 mod tables;
+mod words;
 
 pub use play::answer_input;

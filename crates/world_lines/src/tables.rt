@@ -1,6 +1,15 @@
 // The tables of a world, as its lines tell them.
+ghost use Rattle.std.specs.Prelude.{◌≡◌, ◌++◌, IfOk};
+ghost use Rattle.world_commands.specs.Words.{ReadAs, parts_of};
+ghost use Rattle.index_tables.specs.IndexRows.{lent_rows};
+ghost use Rattle.world_lines.specs.Crates.{crates_from};
+ghost use Rattle.world_lines.specs.Lent.{lent};
+ghost use Rattle.world_lines.specs.NameTexts.{name_line, listed};
+ghost use Rattle.world_lines.specs.Rows.{IsModuleRow, IsBlockRow, IsMake};
+
 use crate::index_rows::{IndexRows, pushed, set};
 use crate::lines::Line;
+use crate::words::{three, two};
 use hir_def::builtin_type::BuiltinType;
 use hir_def::edition::Edition;
 use hir_def::{BlockId, CrateId, ModuleId, Name};
@@ -42,25 +51,30 @@ pub(crate) struct Tables {
     index: IndexRows,
 }
 
-fn module_row(rest: &str) -> Option<ModuleRow> {
-    let mut words = rest.split(' ');
-    let row = ModuleRow {
-        krate: CrateId(number(words.next()?)?),
-        block: optional(words.next()?)?.map(BlockId),
-        parent: optional(words.next()?)?.map(ModuleId),
-    };
-    words.next().is_none().then_some(row)
+fn module_row(rest: &str) -> Option<ModuleRow>
+    ensures { ReadAs IsModuleRow (parts_of 32 rest.now) result }
+{
+    let (krate, block, parent) = three(rest)?;
+    Some(ModuleRow {
+        krate: CrateId(number(krate)?),
+        block: optional(block)?.map(BlockId),
+        parent: optional(parent)?.map(ModuleId),
+    })
 }
 
-fn block_row(rest: &str) -> Option<BlockRow> {
-    let (root, outside) = rest.split_once(' ')?;
+fn block_row(rest: &str) -> Option<BlockRow>
+    ensures { ReadAs IsBlockRow (parts_of 32 rest.now) result }
+{
+    let (root, outside) = two(rest)?;
     Some(BlockRow {
         root: ModuleId(number(root)?),
         outside: ModuleId(number(outside)?),
     })
 }
 
-fn make_of(rest: &str) -> Option<Make> {
+fn make_of(rest: &str) -> Option<Make>
+    ensures { ReadAs IsMake rest.now result }
+{
     match rest {
         "table" => Some(Make::Table),
         "ledger" => Some(Make::Ledger),
@@ -68,7 +82,9 @@ fn make_of(rest: &str) -> Option<Make> {
     }
 }
 
-fn push_numbered(alloc: Global, lines: &mut Vec<u8>, name: u32) -> Result<(), AllocError> {
+fn push_numbered(alloc: Global, lines: &mut Vec<u8>, name: u32) -> Result<(), AllocError>
+    ensures { IfOk result (λ _. lines.new.items ≡ lines.old.items ++ name_line name) }
+{
     match BuiltinType::text(Name(name)) {
         Some(text) => lines.extend_from_slice(text.as_bytes())?,
         None => {
@@ -120,7 +136,10 @@ impl Tables {
 
     /// A row for each crate. Its root is its first blockless module without a parent; if there is none, a number that
     /// does not exist.
-    pub(crate) fn crates(&self, alloc: Global) -> Result<Vec<CrateRow>, AllocError> {
+    #[tactic(auto, using(std::proofs::lemmas::List::take_all))]
+    pub(crate) fn crates(&self, alloc: Global) -> Result<Vec<CrateRow>, AllocError>
+        ensures { IfOk result (λ v. v.items ≡ crates_from 0 self.now.editions.items self.now.modules.items) }
+    {
         let mut rows = Vec::new(alloc);
         for edition in &self.editions {
             rows.push(CrateRow {
@@ -139,7 +158,9 @@ impl Tables {
     }
 
     /// The tables, lent to an index, with the rows of the crates.
-    pub(crate) fn lend<'a>(&'a self, crates: &'a [CrateRow]) -> IndexTables<'a> {
+    pub(crate) fn lend<'a>(&'a self, crates: &'a [CrateRow]) -> IndexTables<'a>
+        ensures { lent_rows result ≡ lent self.now crates.now }
+    {
         let rows = &self.index;
         IndexTables {
             tree: tree_rows::Tables {
@@ -160,7 +181,10 @@ impl Tables {
     }
 
     /// The bytes of the name list.
-    pub(crate) fn names_text(&self, alloc: Global) -> Result<Vec<u8>, AllocError> {
+    #[tactic(auto, using(crate::proofs::NameLines::one_line_more))]
+    pub(crate) fn names_text(&self, alloc: Global) -> Result<Vec<u8>, AllocError>
+        ensures { IfOk result (λ v. v.items ≡ listed self.now.list self.now.names) }
+    {
         if let List::Told(bytes) = &self.list {
             return bytes.clone();
         }

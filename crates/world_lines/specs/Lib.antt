@@ -1,0 +1,4 @@
+pub mod Crates
+pub mod Lent
+pub mod NameTexts
+pub mod Rows
